@@ -22,7 +22,11 @@ EXCEPTIONS: dict[str, str] = {  # what needs neither a caller nor an edit, each 
     "bit_rows: Row::hi": "a field, which its clause names",
     "bit_rows: Row::lo": "a field, which its clause names",
     "bit_rows: Rows::lo": "a field, which its clause names",
+    "flow_kept: Kept::limits": "a field, which its clause names",
     "flow_kept: Kept::program": "tacflow_c calls it, of what a handle keeps",
+    "flow_lints: linted_here": "hands on linted, over whose clauses lint_texts is proved",
+    "flow_parts: part_here": "hands on PartText, over whose clauses view_commands is proved",
+    "flow_queries: answer_here": "hands on GraphSolvers, over whose clauses flow_reports is proved",
     "flow_rows: Board::claim": "hands on WordBoard::claim; claim_takes_taken turns it",
     "flow_rows: Board::cut": "hands on WordBoard::cut, a field, which its clause names",
     "flow_rows: Board::finish": "hands on WordBoard::finish; finish_other_slice turns it",
@@ -30,7 +34,9 @@ EXCEPTIONS: dict[str, str] = {  # what needs neither a caller nor an edit, each 
     "flow_rows: Board::look": "hands on WordBoard::look; look_hides turns it",
     "flow_rows: Board::post": "hands on WordBoard::post; post_nothing turns it",
     "flow_rows: Board::split": "hands on WordBoard::split; split_holds_the_same_slice turns it",
+    "flow_texts: table_text": "hands on TableText, over whose clauses flow_commands is proved",
     "gk_solve: SliceWords::visits": "a counter, of which no contract speaks",
+    "lint_texts: lint_text_here": "hands on LintText, over whose clauses lint_commands is proved",
     "tac_lines: Line::labels": "tac_reader calls it, of what Lines::line gives",
 }
 NOTHING_RUNS = re.compile(r"[/_](laws|examples)\.rt$")

@@ -504,6 +504,7 @@ def hostile_lines() -> bytes:
         facts = {"path": True, "bits": [0], "names": [name, name + "@entry", f"{name}@1"]}
         row: Row = {"type": "point", "point": at, "procedure": names[0], "place": at}
         row |= {"line": None if end else at + 1, "statement": None if end else f"{name} = {name}"}
+        row |= {"labels": [name]}
         row |= {"edges": [] if end else [{"kind": "step", "to": at + 1}], "reach": facts}
         rows.append(row | {"live": facts, "avail": facts, "busy": facts})
     for at, name in enumerate(names):
@@ -515,6 +516,7 @@ def hostile_lines() -> bytes:
         computed: Row = {"kind": "computed", "expression": name, "last_evaluations": [at]}
         rows.append(base | computed | {"holders": names})
         rows.append({"type": "doubt", "point": at, "line": at + 1, "variable": name, "doubt": 0})
+    rows.append({"type": "end", "points": len(names) + 1})
     return "".join(json.dumps(row, separators=(",", ":")) + "\n" for row in rows).encode()
 
 
@@ -556,10 +558,11 @@ def many_lines() -> bytes:
         end = at == MANY - 1
         row: Row = {"type": "point", "point": at, "procedure": "main", "place": at}
         row |= {"line": None if end else at + 2, "statement": None if end else f"x = x + {at}"}
-        rows.append(row | {"edges": [] if end else [{"kind": "step", "to": at + 1}]})
+        rows.append(row | {"labels": [], "edges": [] if end else [{"kind": "step", "to": at + 1}]})
     hops = [{"kind": "step", "from": at, "to": at + 1} for at in range(MANY // 2)]
     unset = {"kind": "unset", "variable": "x", "path": hops}
     rows.append({"type": "remark", "point": MANY // 2, "line": MANY // 2 + 2} | unset)
+    rows.append({"type": "end", "points": MANY})
     return "".join(json.dumps(row, separators=(",", ":")) + "\n" for row in rows).encode()
 
 
@@ -598,17 +601,19 @@ def check_make() -> None:
         (good + b"{}\n", "line 2 is not as tacview --format json writes it"),
         (good + b'{"type":"point"', "line 2 was cut short"),
         (good + b'{"type":"\xff"}\n', "line 2 is not UTF-8"),
+        (good, "line 1 is not the last that tacview writes: lines were cut short"),
     ]:
         same("a refusal", refused(text), f"page/make: {said}\n")
     wrong = refused(good, "--no-such-word")
     assert "--title TEXT" in wrong and wrong.count("\n") == 1, wrong
-    large = good + b'{"type":"point","x":"' + b"x" * 15_000_000 + b'"}\n'
+    end = b'{"type":"end","points":1}\n'
+    large = good + b'{"type":"point","x":"' + b"x" * 15_000_000 + b'"}\n' + end
     done = subprocess.run([MAKE], input=large, capture_output=True)
     assert done.returncode == 0 and len(done.stdout) > len(large), done.returncode
     warned = done.stderr
     assert warned.startswith(b"page/make: 15 MB") and warned.count(b"\n") == 1, warned
     with open("/dev/full", "wb") as full:
-        done = subprocess.run([MAKE], input=good, stdout=full, stderr=subprocess.PIPE)
+        done = subprocess.run([MAKE], input=good + end, stdout=full, stderr=subprocess.PIPE)
     assert done.returncode == 1 and done.stderr.count(b"\n") == 1, done.stderr
 
 

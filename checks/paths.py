@@ -221,22 +221,24 @@ def check(seed: int, counts: Counter[str]) -> None:
     unset = [dict(row) for row in rows if row.get("kind") == "unset"]
     program, graph = Program(rows), Graph(rows)
     doubts = [row for row in rows if row["type"] == "doubt"]
+    end = rows.pop()
+    assert end["type"] == "end", end
     rows = rows[: len(rows) - len(doubts)]
-    assert all(row["type"] != "doubt" for row in rows), "doubts stand behind all else"
+    assert all(row["type"] != "doubt" for row in rows), "doubts stand behind all else but the end"
     for row in rows:
         if row["type"] == "remark":
             check_remark(program, graph, row, counts)
     if unset:
         check_picture(source, unset[seed % len(unset)])
     check_doubts(graph, doubts, counts)
-    assert rows == rows_of(source), "the lines but for what --paths adds"
+    assert [*rows, end] == rows_of(source), "the lines but for what --paths adds"
 
 
 def marks_of(remark: Row) -> str:
     """The lines by which a picture marks the path of a remark."""
     marks = ""
     for hop in remark["path"]:
-        dashed = ", style=dashed" if hop["kind"] == "pass" else ""
+        dashed = ", style=dashed, arrowhead=normal" if hop["kind"] == "pass" else ""
         marks += f"  {hop['from']} [color=blue, penwidth=3];\n"
         marks += f"  {hop['from']} -> {hop['to']} [color=blue, penwidth=3{dashed}];\n"
     return marks + f"  {remark['point']} [color=blue, penwidth=3];\n"

@@ -3,15 +3,14 @@ request of a run, the second, and so on until a run meets no refusal; and in the
 request with all behind it (refuse.c, which is preloaded, does that).
 
 A program has to answer as with ample memory, or to say in one line that it is out of memory, with
-status 1 and nothing written. A test has to pass, or to fail by want of memory, or to fail by the
-name of the call that was refused, once all that it asserts of that call holds. Each call of CALLS
-has to be named so in some run.
+status 1, taclint with 3, and nothing written. A test has to pass, or to fail by want of memory, or
+to fail by the name of the call that was refused, once all that it asserts of that call holds. Each
+call of CALLS has to be named so in some run.
 
     checks/refused           a line for each fault, and then `N passed, M failed`
     checks/refused --table   the same, and a table of the requests that were met
 
-TACFLOW=/path/to/program and TACVIEW=/path/to/program take other programs than those in
-crates/NAME/out.
+TACFLOW=/path/to/program, TACVIEW and TACLINT take other programs than those in crates/NAME/out.
 """
 
 from __future__ import annotations
@@ -54,8 +53,18 @@ WORDS = {
         "--format json --procedure main",
         "--format report",
     ],
+    "taclint": ["-", "--kinds all -", "--limits large /dev/stdin"],
 }
+# by how many workers, and in slices of one bit; taclint takes one
 WORKERS = (1, 3)
+BY_WORKERS = ("tacflow", "tacview")
+# How a program ends that is out of memory, and what it may name then: itself, or what is read.
+REFUSED_STATUS = {"tacflow": 1, "tacview": 1, "taclint": 3}
+REFUSED_NAMES = {
+    "tacflow": ["tacflow"],
+    "tacview": ["tacview"],
+    "taclint": ["taclint", "<stdin>", "/dev/stdin"],
+}
 
 # The calls that each crate's tests of refused memory make, as patterns: some run has to name each
 # of them.
@@ -79,6 +88,7 @@ CALLS = {
         "Problem::copied",
         "Problem::edges",
     },
+    "flow_parts_tests": {"digest", "PartText::of", "part_here", "merge"},
     "flow_team_answers_tests": {"answer", "answer_here", "answers_of_tables"},
     "flow_team_tests": {"Job::open", "analyse", "table_at"},
     "flow_texts_tests": {
@@ -189,7 +199,9 @@ def call_named(case: Case, outcome: Outcome, ample: Outcome) -> str | None:
     if outcome == ample:
         return ""
     if not case.is_test:
-        return "" if outcome == Outcome(1, b"", f"{case.name}: out of memory\n".encode()) else None
+        lines = [f"{name}: out of memory\n".encode() for name in REFUSED_NAMES[case.name]]
+        is_told = outcome[:2] == (REFUSED_STATUS[case.name], b"") and outcome.said in lines
+        return "" if is_told else None
     if outcome.status != FAILED:
         return None
     named = REFUSED.fullmatch(outcome.said)
@@ -234,14 +246,15 @@ def built(name: str) -> str:
 
 
 def programs() -> Iterator[Case]:
-    """The runs of both programs: each text and words, by each number of workers, in slices of one
+    """The runs of the programs: each text and words, by each number of workers, in slices of one
     bit."""
     for name, words in WORDS.items():
-        for word, workers, given in itertools.product(words, WORKERS, TEXTS):
-            command = [built(name), *word.split(), "--workers", str(workers), "--cut", "1"]
+        teams = [f" --workers {workers}" for workers in WORKERS] if name in BY_WORKERS else [""]
+        for word, team, given in itertools.product(words, teams, TEXTS):
+            cut = ["--cut", "1"] if team else []
+            command = [built(name), *word.split(), *team.split(), *cut]
             yield from (
-                Case(name, f"{word} --workers {workers}", command, given, False, is_all)
-                for is_all in (False, True)
+                Case(name, word + team, command, given, False, is_all) for is_all in (False, True)
             )
 
 

@@ -70,13 +70,9 @@ class Lines:
         return self.place(number) if same else f"{row['procedure']}, {self.place(number)}"
 
     def searched(self, number: int) -> str:
-        """What is searched of a point: its statement, and labels that jumps name."""
-        labels = [
-            row["statement"].split()[-1]
-            for row in self.points.values()
-            if "goto" in (row["statement"] or "").split() and row["edges"][-1]["to"] == number
-        ]
-        return " ".join([self.points[number]["statement"] or "end", *labels])
+        """What is searched of a point: its statement and its labels."""
+        row = self.points[number]
+        return " ".join([row["statement"] or "end", *row["labels"]])
 
     def outcome(self, number: int, to: int) -> bool | None:
         """How the test at a point came out where control goes to another."""

@@ -1,5 +1,6 @@
-"""Tries tacview on each program of examples/. Each line of JSON is parsed and compared with what
-tacflow writes of the same program: tables, report, listing and source. Each picture goes through
+"""Tries tacview on each program of examples/. Each line of JSON is parsed, held against
+docs/tacview.schema.json, and compared with what tacflow writes of the same program: tables, report,
+listing and source. Each picture is compared with one that is made of the lines, and goes through
 Graphviz, where `dot` is there. Then the facts of one procedure of a larger program have to do with
 the memory of its points, and the report of a program with many tests and expressions with that of
 the words that have a bit. TACVIEW=/path/to/program and TACFLOW=/path/to/program take other programs
@@ -15,6 +16,8 @@ import subprocess
 import sys
 import tempfile
 from typing import Any
+
+from schema import Schema
 
 Row = dict[str, Any]  # an object of a line of JSON
 
@@ -41,16 +44,26 @@ def run(program: str, words: list[str], source: bytes) -> bytes:
     return done.stdout
 
 
+def check_schema(rows: list[Row]) -> None:
+    """Each line is as its schema says."""
+    schema = Schema()
+    for row in rows:
+        fault = schema.fault(row)
+        assert fault is None, (fault, row)
+
+
 def objects(source: bytes, *words: str) -> tuple[Row, list[Row], list[Row]]:
     """The objects of tacview's JSON: the program, its points, its remarks."""
     rows = [
         json.loads(row)
         for row in run(TACVIEW, ["--format", "json", *words], source).decode().splitlines()
     ]
+    check_schema(rows)
     kinds = [row["type"] for row in rows]
     points, remarks = kinds.count("point"), kinds.count("remark")
-    assert kinds == ["program"] + ["point"] * points + ["remark"] * remarks, kinds
-    return rows[0], rows[1 : 1 + points], rows[1 + points :]
+    assert kinds == ["program"] + ["point"] * points + ["remark"] * remarks + ["end"], kinds
+    assert rows[-1] == {"type": "end", "points": points}, rows[-1]
+    return rows[0], rows[1 : 1 + points], rows[1 + points : -1]
 
 
 def report_of(program: Row, remarks: list[Row]) -> str:
@@ -96,6 +109,17 @@ def statements_of(listing: str) -> list[str | None]:
     return [None if row == "end" else row.strip() for row in rows]
 
 
+def check_labels(listing: str, points: list[Row]) -> None:
+    """Labels stand at the points where a listing has them."""
+    labels: list[list[str]] = [[]]
+    for row in listing.splitlines():
+        if row.endswith(":"):
+            labels[-1].append(row[:-1])
+        elif not row.startswith("proc "):
+            labels.append([])
+    assert [point["labels"] for point in points] == labels[:-1], labels
+
+
 def check_spans(source: bytes, rows: list[Row]) -> None:
     """Each statement's first and last byte spell it, but for blanks."""
     for row in rows:
@@ -107,6 +131,14 @@ def check_spans(source: bytes, rows: list[Row]) -> None:
             assert source[: row["first"] - 1].count(b"\n") + 1 == row["line"], row
 
 
+def outcome_of(point: Row, edge: Row) -> bool | None:
+    """How a test comes out where a step is taken: its jump's is the last of two."""
+    statement, steps = point["statement"] or "", point["edges"]
+    if not statement.startswith("if") or len(steps) < 2:
+        return None
+    return (edge == steps[1]) != statement.startswith("ifFalse ")
+
+
 def check_edges(points: list[Row]) -> None:
     """Steps stay in their procedure; calls begin at their site, and each has a return to the point
     behind the site."""
@@ -116,6 +148,7 @@ def check_edges(points: list[Row]) -> None:
             target = points[edge["to"]]
             if edge["kind"] == "step":
                 assert target["procedure"] == point["procedure"], (point, edge)
+                assert edge.get("when") == outcome_of(point, edge), (point, edge)
             elif edge["kind"] == "call":
                 assert edge["site"] == point["point"] and target["place"] == 0, (point, edge)
                 calls.add((edge["site"], target["procedure"]))
@@ -143,9 +176,9 @@ def check_json(source: bytes) -> None:
         assert (
             table_of(points, analysis) == run(TACFLOW, ["--show", analysis], source).decode()
         ), analysis
-    assert [point["statement"] for point in points] == statements_of(
-        run(TACFLOW, ["--show", "list"], source).decode()
-    )
+    listing = run(TACFLOW, ["--show", "list"], source).decode()
+    assert [point["statement"] for point in points] == statements_of(listing)
+    check_labels(listing, points)
     check_spans(source, points)
     check_edges(points)
     for name in program["procedures"]:
@@ -162,6 +195,125 @@ def check_json(source: bytes) -> None:
         assert objects(source, "--procedure", name, "--facts", "live")[1] == live, name
 
 
+def written_by(point: Row) -> str | None:
+    """The variable that the statement at a point writes."""
+    found = re.match(r"(?:read )?(\w+)(?: = |$)", point["statement"] or "")
+    return found[1] if found and found[1] not in ("skip", "return") else None
+
+
+def passed(point: Row, analysis: str) -> dict[str, int]:
+    """What a statement makes of the set before it, in a forward analysis: names and numbers."""
+    names = dict(zip(point[analysis]["names"], point[analysis]["bits"]))
+    written, statement = written_by(point), point["statement"]
+    if not point[analysis]["path"]:
+        return names
+    if analysis == "reach":
+        kept = {name: bit for name, bit in names.items() if name.split("@")[0] != written}
+        made = {f"{written}@{point['line']}": 1 << 30} if written else {}
+        return {**kept, **made}
+    right = statement.split(" = ")[1] if " = " in statement else ""
+    if not re.fullmatch(r"\w*", right):
+        names[right] = dict(zip(point["busy"]["names"], point["busy"]["bits"]))[right]
+    return {name: bit for name, bit in names.items() if written not in re.findall(r"\w+", name)}
+
+
+def behind(point: Row, points: list[Row], analysis: str) -> list[str]:
+    """The set behind a statement, by name."""
+    if analysis in ("reach", "avail"):
+        names = passed(point, analysis)
+    else:
+        following = [points[edge["to"]][analysis] for edge in point["edges"]]
+        sets = [set(zip(facts["names"], facts["bits"])) for facts in following]
+        names = dict(set.union(*sets) if analysis == "live" else set.intersection(*sets))
+    if analysis != "reach":
+        return sorted(names, key=lambda name: names[name])
+    line = {name: name.split("@")[1] for name in names}
+    entries = [name for name in names if line[name] == "entry"]
+    return entries + sorted(set(names) - set(entries), key=lambda name: int(line[name]))
+
+
+def both_sides(points: list[Row]) -> list[Row]:
+    """The points with their sets on both sides, without the values at the beginning."""
+    shown = []
+    for point in points:
+        sets: dict[str, Row] = {}
+        for name in ANALYSES:
+            facts = point[name]
+            kept = [one for one in facts["names"] if not one.endswith("@entry")]
+            sets[name] = {**facts, "names": kept}
+            if point["line"] is not None and not point["statement"].startswith("call "):
+                names = behind(point, points, name)
+                sets[name]["behind"] = [one for one in names if not one.endswith("@entry")]
+        shown.append({**point, **sets})
+    return shown
+
+
+def node_of(point: Row, remarks: list[Row]) -> str:
+    """The line of a point in a picture."""
+    lines = [f"{label}:" for label in point["labels"]]
+    end = point["line"] is None
+    lines.append(f"end of {point['procedure']}" if end else f"{point['line']}: {point['statement']}")
+    lines += [REMARKS[remark["kind"]].format(**remark) for remark in remarks]
+    for name in ANALYSES:
+        if name in point:
+            lines.append(f"{name}: {', '.join(point[name]['names']) or '-'}")
+            if "behind" in point[name]:
+                lines.append(f"{name} behind: {', '.join(point[name]['behind']) or '-'}")
+    kinds = {remark["kind"] for remark in remarks}
+    marks = ", color=red, fontcolor=red" if "unset" in kinds else ""
+    marks += ", style=filled, fillcolor=khaki" if "dead" in kinds else ""
+    reached = point["reach"]["path"] if "reach" in point else "never_reached" not in kinds
+    marks = marks if reached else ", style=filled, fillcolor=grey80"
+    marks += ", peripheries=2" if point["doubtful"] else ""
+    label = "".join(line + "\\l" for line in lines)
+    return f'    {point["point"]} [label="{label}"{marks}];\n'
+
+
+ACROSS = "style=dashed, color=grey60, fontcolor=grey40, constraint=false"
+
+
+def edges_of(point: Row, lines: dict[int, int | None]) -> str:
+    """The lines of the edges that leave a point, of those between points that are shown."""
+    source, text = point["point"], ""
+    for edge in point["edges"]:
+        if edge["to"] not in lines:
+            continue
+        outcome = {True: ' [label="T"]', False: ' [label="F"]', None: ""}[edge.get("when")]
+        if edge["kind"] != "step":
+            outcome = f' [{ACROSS}, xlabel="{edge["kind"]} {lines[edge["site"]]}"]'
+        text += f"  {source} -> {edge['to']}{outcome};\n"
+    if any(edge["kind"] == "call" for edge in point["edges"]):
+        text += f"  {source} -> {source + 1} [style=dotted, arrowhead=none];\n"
+    return text
+
+
+def picture_of(program: Row, points: list[Row], remarks: list[Row]) -> str:
+    """The picture of these objects."""
+    names = program["procedures"]
+    text = 'digraph "tacflow" {\n  graph [fontname="monospace", labeljust=l];\n'
+    text += '  node [shape=box, fontname="monospace", fontsize=11];\n'
+    text += '  edge [fontname="monospace", fontsize=10];\n'
+    for name in sorted(names, key=lambda name: name != "main"):
+        text += f'  subgraph "cluster_{names.index(name)}" {{\n    label="{name}";\n'
+        for point in points:
+            own = [row for row in remarks if row["point"] == point["point"]]
+            text += node_of(point, own) if point["procedure"] == name else ""
+        text += "  }\n"
+    lines = {point["point"]: point["line"] for point in points}
+    return text + "".join(edges_of(point, lines) for point in points) + "}\n"
+
+
+def check_picture(source: bytes) -> None:
+    """Pictures are what the lines of JSON make, with facts or without, on one side or on both."""
+    for facts in (["--facts", "all"], ["--facts", "reach"]):
+        wanted = picture_of(*objects(source, *facts))
+        assert run(TACVIEW, facts, source).decode() == wanted, facts
+    program, points, remarks = objects(source)
+    words = ["--facts", "all", "--hide-entry", "--facts-behind"]
+    wanted = picture_of(program, both_sides(points), remarks)
+    assert run(TACVIEW, words, source).decode() == wanted, words
+
+
 def check_dot(source: bytes) -> None:
     """Graphviz takes each picture."""
     if not shutil.which("dot"):
@@ -176,6 +328,18 @@ def check_dot(source: bytes) -> None:
             ["dot", "-Tsvg"], input=run(TACVIEW, words, source), capture_output=True
         )
         assert done.returncode == 0 and not done.stderr, done.stderr.decode()
+
+
+def check_paths(source: bytes) -> None:
+    """With paths each line is as its schema says, and a copy that lacks a field is not."""
+    words = ["--format", "json", "--paths"]
+    rows = [json.loads(row) for row in run(TACVIEW, words, source).decode().splitlines()]
+    check_schema(rows)
+    for row in rows:
+        for field in ("type", "points", "point", "version", "labels"):
+            less = {name: value for name, value in row.items() if name != field}
+            assert field not in row or Schema().fault(less) is not None, (field, row)
+            assert Schema().fault({**row, field: -1}) is not None, (field, row)
 
 
 def run_within(kilobytes: int, words: list[str], source: bytes) -> bytes:
@@ -250,7 +414,7 @@ def main() -> int:
     for name in sorted(name for name in os.listdir(EXAMPLES) if name.endswith(".tac")):
         with open(os.path.join(EXAMPLES, name), "rb") as file:
             source = file.read()
-        tries += [(name, check_json, source), (name, check_dot, source)]
+        tries += [(name, check, source) for check in (check_json, check_paths, check_picture, check_dot)]
     passed = failed = 0
     for name, check, source in tries:
         try:

@@ -3,11 +3,12 @@
 ghost use Rattle.std.specs.Prelude.{◌≡◌, ◌++◌, [], flat_map, codes};
 ghost use Rattle.checked_examples.specs.ProgramExamples.{adds_to_itself, calls_endless, calls_itself};
 ghost use Rattle.checked_examples.specs.WorkedTexts.{known_of_endless_callee, known_of_sum};
-ghost use Rattle.flow_views.specs.Dots.{dot_of, edge_lines};
+ghost use Rattle.flow_views.specs.Dots.{cluster, dot_of, edge_lines, label_line, label_lines};
 ghost use Rattle.flow_views.specs.Json.{json_of};
 ghost use Rattle.text_pieces.specs.Strings.{escaped, quoted};
 ghost use Rattle.flow_views.specs.Views.{shown_points};
-ghost use Rattle.checked_examples.specs.WorkedViews.{first_alone, plain, reach_and_live, second_alone};
+ghost use Rattle.checked_examples.specs.WorkedViews.{behind_with_entry, behind_without_entry, first_alone, plain, reach_and_live};
+ghost use Rattle.checked_examples.specs.WorkedViews.{second_alone};
 
 /// A quote and a backslash have a backslash before them, and nothing else has.
 pub fn string_examples()
@@ -32,49 +33,76 @@ pub fn dot_examples()
         ++ codes "  subgraph \"cluster_0\" {\n    label=\"main\";\n    0 [label=\"2: call f\\l\", peripheries=2];\n"
         ++ codes "    1 [label=\"3: a = b + c\\lnever reached\\l\", style=filled, fillcolor=grey80];\n"
         ++ codes "    2 [label=\"end of main\\l\", style=filled, fillcolor=grey80];\n  }\n  subgraph \"cluster_1\" {\n    label=\"f\";\n"
-        ++ codes "    3 [label=\"6: goto L\\l\", peripheries=2];\n    4 [label=\"end of f\\l\", style=filled, fillcolor=grey80];\n  }\n"
-        ++ codes "  0 -> 3 [style=dashed, label=\"call 2\"];\n  1 -> 2;\n  3 -> 3;\n  4 -> 1 [style=dashed, label=\"return 2\"];\n}\n" }
+        ++ codes "    3 [label=\"L:\\l6: goto L\\l\", peripheries=2];\n    4 [label=\"end of f\\l\", style=filled, fillcolor=grey80];\n  }\n"
+        ++ codes "  0 -> 3 [style=dashed, color=grey60, fontcolor=grey40, constraint=false, xlabel=\"call 2\"];\n"
+        ++ codes "  0 -> 1 [style=dotted, arrowhead=none];\n  1 -> 2;\n  3 -> 3;\n"
+        ++ codes "  4 -> 1 [style=dashed, color=grey60, fontcolor=grey40, constraint=false, xlabel=\"return 2\"];\n}\n" }
     ensures first { dot_of calls_endless known_of_endless_callee first_alone
         ≡ codes "digraph \"tacflow\" {\n  graph [fontname=\"monospace\", labeljust=l];\n"
         ++ codes "  node [shape=box, fontname=\"monospace\", fontsize=11];\n  edge [fontname=\"monospace\", fontsize=10];\n"
         ++ codes "  subgraph \"cluster_0\" {\n    label=\"main\";\n    0 [label=\"2: call f\\l\", peripheries=2];\n"
         ++ codes "    1 [label=\"3: a = b + c\\lnever reached\\l\", style=filled, fillcolor=grey80];\n"
-        ++ codes "    2 [label=\"end of main\\l\", style=filled, fillcolor=grey80];\n  }\n  0 -> 1 [style=dashed, label=\"call\"];\n"
+        ++ codes "    2 [label=\"end of main\\l\", style=filled, fillcolor=grey80];\n  }\n  0 -> 1 [style=dotted, arrowhead=none];\n"
         ++ codes "  1 -> 2;\n}\n" }
     ensures recursive { flat_map (edge_lines calls_itself second_alone) (shown_points calls_itself second_alone)
-        ≡ codes "  4 -> 5;\n  4 -> 7;\n  5 -> 4 [style=dashed, label=\"call 8\"];\n  5 -> 6 [style=dashed, label=\"call\"];\n  6 -> 7;\n"
-        ++ codes "  7 -> 6 [style=dashed, label=\"return 8\"];\n" }
+        ≡ codes "  4 -> 5 [label=\"F\"];\n  4 -> 7 [label=\"T\"];\n"
+        ++ codes "  5 -> 4 [style=dashed, color=grey60, fontcolor=grey40, constraint=false, xlabel=\"call 8\"];\n"
+        ++ codes "  5 -> 6 [style=dotted, arrowhead=none];\n  6 -> 7;\n"
+        ++ codes "  7 -> 6 [style=dashed, color=grey60, fontcolor=grey40, constraint=false, xlabel=\"return 8\"];\n" }
+{}
+
+/// Facts on both sides of a statement: with the dummy definitions; and without them, in whole clusters, where a call has none behind it, nothing
+/// leads to a statement, or a loop leads to itself.
+pub fn behind_examples()
+    ensures sum { flat_map label_line (label_lines adds_to_itself known_of_sum behind_with_entry 0)
+        ≡ codes "2: x = x + y\\lx may be used before it is set\\ly may be used before it is set\\lassignment to x is dead\\l"
+        ++ codes "reach: x@entry, y@entry\\lreach behind: y@entry, x@2\\llive: x, y\\llive behind: -\\l"
+        ++ codes "avail: -\\lavail behind: -\\lbusy: x + y\\lbusy behind: -\\l" }
+    ensures hidden { flat_map label_line (label_lines adds_to_itself known_of_sum behind_without_entry 1)
+        ≡ codes "end of main\\lreach: x@2\\llive: -\\lavail: -\\lbusy: -\\l" }
+    ensures caller { cluster calls_endless known_of_endless_callee behind_without_entry 0
+        ≡ codes "  subgraph \"cluster_0\" {\n    label=\"main\";\n"
+        ++ codes "    0 [label=\"2: call f\\lreach: -\\llive: -\\lavail: -\\lbusy: b + c\\l\", peripheries=2];\n"
+        ++ codes "    1 [label=\"3: a = b + c\\lnever reached\\lreach: -\\lreach behind: -\\llive: b, c\\llive behind: -\\l"
+        ++ codes "avail: b + c\\lavail behind: b + c\\lbusy: b + c\\lbusy behind: -\\l\", style=filled, fillcolor=grey80];\n"
+        ++ codes "    2 [label=\"end of main\\lreach: -\\llive: -\\lavail: b + c\\lbusy: -\\l\", style=filled, fillcolor=grey80];\n  }\n" }
+    ensures callee { cluster calls_endless known_of_endless_callee behind_without_entry 1
+        ≡ codes "  subgraph \"cluster_1\" {\n    label=\"f\";\n"
+        ++ codes "    3 [label=\"L:\\l6: goto L\\lreach: -\\lreach behind: -\\llive: -\\llive behind: -\\l"
+        ++ codes "avail: -\\lavail behind: -\\lbusy: b + c\\lbusy behind: b + c\\l\", peripheries=2];\n"
+        ++ codes "    4 [label=\"end of f\\lreach: -\\llive: b, c\\lavail: b + c\\lbusy: b + c\\l\", style=filled, fillcolor=grey80];\n  }\n" }
 {}
 
 /// Lines of JSON: sets and remarks; one procedure of two, and the other.
 pub fn json_examples()
     ensures sets { json_of adds_to_itself known_of_sum reach_and_live
-        ≡ codes "{\"type\":\"program\",\"points\":2,\"procedures\":[\"main\"],\"variables\":[\"x\",\"y\"],\"definitions\":3,"
+        ≡ codes "{\"type\":\"program\",\"version\":1,\"points\":2,\"procedures\":[\"main\"],\"variables\":[\"x\",\"y\"],\"definitions\":3,"
         ++ codes "\"expressions\":1}\n"
         ++ codes "{\"type\":\"point\",\"point\":0,\"procedure\":\"main\",\"place\":0,\"line\":2,\"first\":11,\"last\":19,"
-        ++ codes "\"statement\":\"x = x + y\",\"edges\":[{\"kind\":\"step\",\"to\":1}],\"reach\":{\"path\":true,\"bits\":[0,1],"
+        ++ codes "\"labels\":[],\"statement\":\"x = x + y\",\"doubtful\":false,\"edges\":[{\"kind\":\"step\",\"to\":1}],\"reach\":{\"path\":true,\"bits\":[0,1],"
         ++ codes "\"names\":[\"x@entry\",\"y@entry\"]},\"live\":{\"path\":true,\"bits\":[0,1],\"names\":[\"x\",\"y\"]}}\n"
         ++ codes "{\"type\":\"point\",\"point\":1,\"procedure\":\"main\",\"place\":1,\"line\":null,\"first\":null,\"last\":null,"
-        ++ codes "\"statement\":null,\"edges\":[],\"reach\":{\"path\":true,\"bits\":[1,2],\"names\":[\"y@entry\",\"x@2\"]},"
+        ++ codes "\"labels\":[],\"statement\":null,\"doubtful\":false,\"edges\":[],\"reach\":{\"path\":true,\"bits\":[1,2],\"names\":[\"y@entry\",\"x@2\"]},"
         ++ codes "\"live\":{\"path\":true,\"bits\":[],\"names\":[]}}\n"
         ++ codes "{\"type\":\"remark\",\"point\":0,\"line\":2,\"first\":11,\"last\":19,\"kind\":\"unset\",\"variable\":\"x\"}\n"
         ++ codes "{\"type\":\"remark\",\"point\":0,\"line\":2,\"first\":11,\"last\":19,\"kind\":\"unset\",\"variable\":\"y\"}\n"
-        ++ codes "{\"type\":\"remark\",\"point\":0,\"line\":2,\"first\":11,\"last\":19,\"kind\":\"dead\",\"variable\":\"x\"}\n" }
+        ++ codes "{\"type\":\"remark\",\"point\":0,\"line\":2,\"first\":11,\"last\":19,\"kind\":\"dead\",\"variable\":\"x\"}\n{\"type\":\"end\",\"points\":2}\n" }
     ensures first { json_of calls_endless known_of_endless_callee first_alone
-        ≡ codes "{\"type\":\"program\",\"points\":5,\"procedures\":[\"main\",\"f\"],\"variables\":[\"a\",\"b\",\"c\"],\"definitions\":4,"
+        ≡ codes "{\"type\":\"program\",\"version\":1,\"points\":5,\"procedures\":[\"main\",\"f\"],\"variables\":[\"a\",\"b\",\"c\"],\"definitions\":4,"
         ++ codes "\"expressions\":1}\n"
         ++ codes "{\"type\":\"point\",\"point\":0,\"procedure\":\"main\",\"place\":0,\"line\":2,\"first\":11,\"last\":16,"
-        ++ codes "\"statement\":\"call f\",\"edges\":[{\"kind\":\"call\",\"site\":0,\"to\":3}]}\n"
+        ++ codes "\"labels\":[],\"statement\":\"call f\",\"doubtful\":true,\"edges\":[{\"kind\":\"call\",\"site\":0,\"to\":3}]}\n"
         ++ codes "{\"type\":\"point\",\"point\":1,\"procedure\":\"main\",\"place\":1,\"line\":3,\"first\":18,\"last\":26,"
-        ++ codes "\"statement\":\"a = b + c\",\"edges\":[{\"kind\":\"step\",\"to\":2}]}\n"
+        ++ codes "\"labels\":[],\"statement\":\"a = b + c\",\"doubtful\":false,\"edges\":[{\"kind\":\"step\",\"to\":2}]}\n"
         ++ codes "{\"type\":\"point\",\"point\":2,\"procedure\":\"main\",\"place\":2,\"line\":null,\"first\":null,\"last\":null,"
-        ++ codes "\"statement\":null,\"edges\":[]}\n"
-        ++ codes "{\"type\":\"remark\",\"point\":1,\"line\":3,\"first\":18,\"last\":26,\"kind\":\"never_reached\"}\n" }
+        ++ codes "\"labels\":[],\"statement\":null,\"doubtful\":false,\"edges\":[]}\n"
+        ++ codes "{\"type\":\"remark\",\"point\":1,\"line\":3,\"first\":18,\"last\":26,\"kind\":\"never_reached\"}\n{\"type\":\"end\",\"points\":3}\n" }
     ensures second { json_of calls_endless known_of_endless_callee second_alone
-        ≡ codes "{\"type\":\"program\",\"points\":5,\"procedures\":[\"main\",\"f\"],\"variables\":[\"a\",\"b\",\"c\"],\"definitions\":4,"
+        ≡ codes "{\"type\":\"program\",\"version\":1,\"points\":5,\"procedures\":[\"main\",\"f\"],\"variables\":[\"a\",\"b\",\"c\"],\"definitions\":4,"
         ++ codes "\"expressions\":1}\n"
         ++ codes "{\"type\":\"point\",\"point\":3,\"procedure\":\"f\",\"place\":0,\"line\":6,\"first\":42,\"last\":47,"
-        ++ codes "\"statement\":\"goto L\",\"edges\":[{\"kind\":\"step\",\"to\":3}]}\n"
+        ++ codes "\"labels\":[\"L\"],\"statement\":\"goto L\",\"doubtful\":true,\"edges\":[{\"kind\":\"step\",\"to\":3}]}\n"
         ++ codes "{\"type\":\"point\",\"point\":4,\"procedure\":\"f\",\"place\":1,\"line\":null,\"first\":null,\"last\":null,"
-        ++ codes "\"statement\":null,\"edges\":[{\"kind\":\"return\",\"site\":0,\"to\":1}]}\n" }
+        ++ codes "\"labels\":[],\"statement\":null,\"doubtful\":false,\"edges\":[{\"kind\":\"return\",\"site\":0,\"to\":1}]}\n"
+        ++ codes "{\"type\":\"end\",\"points\":2}\n" }
 {}

@@ -14,7 +14,6 @@ use flow_links::Links;
 use gen_kill::Problem;
 
 /// Tables that all groups of a problem share.
-#[derive(Drop)]
 pub(crate) struct Tables {
     /// By procedure all bits, and none.
     pub all: Vec<u64>,
@@ -22,6 +21,18 @@ pub(crate) struct Tables {
     /// By procedure false, and by point true.
     pub never: Vec<bool>,
     pub everywhere: Vec<bool>,
+}
+
+impl Drop for Tables {
+    // By hand: who gives it up then makes one call.
+    fn drop(self) {
+        let Tables {
+            all: _,
+            none: _,
+            never: _,
+            everywhere: _,
+        } = self;
+    }
 }
 
 /// A group of columns, and the procedures that are inside.

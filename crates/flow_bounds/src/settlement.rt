@@ -11,7 +11,7 @@ use crate::OutOfMemory;
 use crate::answers::Asking;
 use crate::asked::{Ask, Told};
 use crate::columns::{by_column, in_order};
-use crate::settling::{Room, tell_columns};
+use crate::settling::{Room, Work, tell_columns};
 use crate::shared::{Shared, base_of};
 use crate::sparing::settled_count;
 use flow_regions::{Wanted, allowance, are_marked, marked_count, solving};
@@ -40,12 +40,14 @@ fn tell_all(alloc: Global, asking: Asking<'_, '_, '_>, told: &mut [Told]) -> Res
     let points = asking.shared.links.points();
     let mut room = Room {
         places: vec![in alloc; 0u32; points as usize]?,
-        rules: Vec::new(alloc),
-        wanted: Wanted::none(alloc, asking.shared.links)?,
-        left: allowance(points, marked_count(asking.shared.base.marked.as_slice())),
+        work: Work {
+            rules: Vec::new(alloc),
+            wanted: Wanted::none(alloc, asking.shared.links)?,
+            left: allowance(points, marked_count(asking.shared.base.marked.as_slice())),
+        },
     };
     for number in 0..columns.len().div_ceil(64) {
-        if room.left == 0 {
+        if room.work.left == 0 {
             return Ok(());
         }
         let group = group_at(columns.as_slice(), number);
@@ -54,7 +56,7 @@ fn tell_all(alloc: Global, asking: Asking<'_, '_, '_>, told: &mut [Told]) -> Res
         }
         tell_columns(alloc, asking, group, &mut room, &mut *told)?;
         let settled = settled_count(asking, group, &*told);
-        room.left = room.left.saturating_add(solving(points, settled));
+        room.work.left = room.work.left.saturating_add(solving(points, settled));
     }
     Ok(())
 }

@@ -196,7 +196,6 @@ fn told_words(
     put_words(
         shared.problem,
         does,
-        shared.base.marked.as_slice(),
         &shared.base.touches,
         columns,
         places,
@@ -205,14 +204,30 @@ fn told_words(
     Ok(words)
 }
 
+/// Rules, and what paths want, of one group after the other. And how much work is left.
+pub(crate) struct Work {
+    pub rules: Vec<Rule>,
+    pub wanted: Wanted,
+    pub left: u64,
+}
+
+impl Drop for Work {
+    // By hand: who gives it up then makes one call.
+    fn drop(self) {
+        let Work {
+            rules: _,
+            wanted: _,
+            left: _,
+        } = self;
+    }
+}
+
 // Puts what the bounds of a group tell.
 fn tell<'x>(
     alloc: Global,
     asking: Asking<'x, '_, '_>,
     group: &Group<'x>,
-    rules: &mut Vec<Rule>,
-    wanted: &mut Wanted,
-    left: &mut u64,
+    work: &mut Work,
     told: &mut [Told],
 ) -> Result<(), OutOfMemory>
     requires asking { IsAsking asking }
@@ -228,12 +243,12 @@ fn tell<'x>(
         base,
     } = asking.shared;
     let above = above(problem, links, group, &base.tables);
-    let Ways { list, tree } = Ways::of(alloc, links, &base.found, group.inside, &mut *wanted)?;
+    let Ways { list, tree } = Ways::of(alloc, links, &base.found, group.inside, &mut work.wanted)?;
     let Witnessed { through, hung } = witness(
         alloc,
         &above,
         list.as_slice(),
-        wanted.numbers.as_slice(),
+        work.wanted.numbers.as_slice(),
         tree.as_slice(),
     )?;
     let known = Known {
@@ -242,8 +257,8 @@ fn tell<'x>(
         hung: hung.as_slice(),
     };
     let below = below(problem, links, group, &base.tables, known);
-    let upper = bound_words(alloc, &above, &mut *rules, &mut *left)?;
-    let lower = bound_words(alloc, &below, rules, left)?;
+    let upper = bound_words(alloc, &above, &mut work.rules, &mut work.left)?;
+    let lower = bound_words(alloc, &below, &mut work.rules, &mut work.left)?;
     let bounds = Bounds {
         above,
         upper,
@@ -254,39 +269,48 @@ fn tell<'x>(
     Ok(())
 }
 
-/// Memory that groups use one after the other: by point a place, rules, and what paths want. And how much work is left.
+/// Memory that groups use one after the other: by point a place, and what bounds are worked out in.
 #[derive(Drop)]
 pub(crate) struct Room {
     pub places: Vec<u32>,
-    pub rules: Vec<Rule>,
-    pub wanted: Wanted,
-    pub left: u64,
+    pub work: Work,
+}
+
+/// A region: its columns, which procedures are inside, and their points.
+#[derive(Clone, Copy)]
+struct Region<'x> {
+    columns: &'x [u32],
+    inside: &'x [bool],
+    points: &'x [u32],
 }
 
 // Puts what is told of the bits that are asked of some columns, 64 at most, by the procedures inside and their points.
 fn tell_inside(
     alloc: Global,
     asking: Asking<'_, '_, '_>,
-    columns: &[u32],
-    inside: &[bool],
-    points: &[u32],
+    region: Region<'_>,
     room: &mut Room,
     told: &mut [Told],
 ) -> Result<(), OutOfMemory>
     requires asking { IsAsking asking }
-    requires few { length columns.now ≤ 64 }
-    requires low { AreLow (column_count asking.shared.problem.now) columns.now }
-    requires marked { AreMarked asking.shared.base.now.marked.items columns.now }
-    requires inside { length inside.now ≡ (directed_shape asking.shared.links.now).procedures }
-    requires touched { HoldsTouched asking.shared.problem.now (directed_shape asking.shared.links.now) columns.now inside.now
+    requires few { length region.columns.now ≤ 64 }
+    requires low { AreLow (column_count asking.shared.problem.now) region.columns.now }
+    requires marked { AreMarked asking.shared.base.now.marked.items region.columns.now }
+    requires inside { length region.inside.now ≡ (directed_shape asking.shared.links.now).procedures }
+    requires touched { HoldsTouched asking.shared.problem.now (directed_shape asking.shared.links.now) region.columns.now region.inside.now
         (point_count asking.shared.links.now.program) }
-    requires placed { ArePlaced (directed_shape asking.shared.links.now) inside.now (point_count asking.shared.links.now.program)
-        (directed_shape asking.shared.links.now).procedures points.now room.old.places.items }
-    requires few_points { length points.now ≤ 1048576 }
+    requires placed { ArePlaced (directed_shape asking.shared.links.now) region.inside.now (point_count asking.shared.links.now.program)
+        (directed_shape asking.shared.links.now).procedures region.points.now room.old.places.items }
+    requires few_points { length region.points.now ≤ 1048576 }
     requires before { AreToldOf asking.shared.problem.now asking.asks.now told.old }
     ensures places { OnOk result (length room.new.places.items ≡ point_count asking.entry.shared.links.now.program) }
     ensures told { OnOk result (AreToldOf asking.entry.shared.problem.now asking.entry.asks.now told.new) }
 {
+    let Region {
+        columns,
+        inside,
+        points,
+    } = region;
     let places = room.places.as_slice();
     let shared = asking.shared;
     let count = points.len() as u32;
@@ -305,16 +329,8 @@ fn tell_inside(
         leads: leads.as_slice(),
         called: called.as_slice(),
     };
-    room.left = room.left.saturating_sub(making(points.len()));
-    tell(
-        alloc,
-        asking,
-        &group,
-        &mut room.rules,
-        &mut room.wanted,
-        &mut room.left,
-        told,
-    )
+    room.work.left = room.work.left.saturating_sub(making(points.len()));
+    tell(alloc, asking, &group, &mut room.work, told)
 }
 
 /// Puts what is told of the bits that are asked of some columns, 64 at most. Fails only where memory runs out.
@@ -340,13 +356,10 @@ pub(crate) fn tell_columns(
     if is_too_much(shared.links.points(), points.len()) {
         return Ok(());
     }
-    tell_inside(
-        alloc,
-        asking,
+    let region = Region {
         columns,
-        inside.as_slice(),
-        points.as_slice(),
-        room,
-        told,
-    )
+        inside: inside.as_slice(),
+        points: points.as_slice(),
+    };
+    tell_inside(alloc, asking, region, room, told)
 }

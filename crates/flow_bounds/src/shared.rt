@@ -17,7 +17,6 @@ use std::alloc::Global;
 
 /// What is made once for all groups of a problem: by column whether it is asked, and the points that touch it then, by procedure its points and
 /// ranks, tables, and how points are reached.
-#[derive(Drop)]
 pub(crate) struct Base {
     pub marked: Vec<bool>,
     pub touches: Lists,
@@ -25,6 +24,20 @@ pub(crate) struct Base {
     pub ranks: Vec<u32>,
     pub tables: Tables,
     pub found: Found,
+}
+
+impl Drop for Base {
+    // By hand: who gives it up then makes one call.
+    fn drop(self) {
+        let Base {
+            marked: _,
+            touches: _,
+            listed: _,
+            ranks: _,
+            tables: _,
+            found: _,
+        } = self;
+    }
 }
 
 /// A problem, its edges, the points to which some valid path leads, and what is made for all groups.

@@ -1,6 +1,6 @@
 // What is written of a program.
 
-ghost use Rattle.std.specs.Prelude.{◌≡◌, ◌+◌, ◌-◌, ◌^◌, ◌<◌, IfErr, OnOk, true};
+ghost use Rattle.std.specs.Prelude.{◌≡◌, ◌+◌, ◌-◌, ◌^◌, ◌<◌, [], IfErr, OnOk, true};
 ghost use Rattle.std.specs.Thread.{IsSync};
 ghost use Rattle.flow_graph.specs.Limits.{HasFewBits, HasFewPoints};
 ghost use Rattle.tac_program.specs.declared.limits.Limits.TheVariants.{Standard};
@@ -13,7 +13,7 @@ ghost use Rattle.flow_commands.specs.Runs.{IsShown, needs_graph as kind_needs_gr
 
 use crate::options::{Options, Show};
 use flow_graph::{Analysis, Graph};
-use flow_runs::{Fault, Output, graph_of, push_report, push_text};
+use flow_runs::{Fault, OutOfMemory, Output, graph_of, push_report, push_text};
 use flow_team::{OpenGate, Table, Team, table_of};
 use flow_texts::TableText;
 use std::alloc::Global;
@@ -117,7 +117,9 @@ impl Output for Options {
 
     ghost needs_graph = { λ options. kind_needs_graph options.show };
 
-    ghost is_output = { λ options. IsShown options.show };
+    ghost kept = { λ _ _. [] };
+
+    ghost is_output = { λ options _. IsShown options.show };
 
     ghost lacks = { λ _ _. ⊥ };
 
@@ -127,10 +129,16 @@ impl Output for Options {
         Limits::Standard
     }
 
+    // What is written goes by the program alone.
+    fn keep(&self, alloc: Global, _text: &[u8]) -> Result<Vec<u8>, OutOfMemory> {
+        Ok(Vec::new(alloc))
+    }
+
     fn write<R: Threads + Sync, K: Sink>(
         &self,
         rt: &R,
         alloc: Global,
+        _mark: &[u8],
         program: &Program,
         sink: &mut K,
     ) -> Result<(), Fault> {

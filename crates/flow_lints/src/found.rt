@@ -9,6 +9,7 @@ use crate::OutOfMemory;
 use crate::doubt::doubt_on_executions;
 use flow_reports::Findings;
 use std::alloc::Global;
+use std::mem::replace;
 
 /// What was found of a program: what its report is made of, and for each point whether it is doubtful on executions.
 #[derive(Drop)]
@@ -41,18 +42,8 @@ impl<'a> LintFindings<'a> {
     {
         let on_executions = doubt_on_executions(alloc, &found)?;
         let none = no_points(alloc, found.graph.points())?;
-        let Findings {
-            graph,
-            answers,
-            doubtful,
-            expressions,
-        } = found;
-        let undoubted = Findings {
-            graph,
-            answers,
-            doubtful: none,
-            expressions,
-        };
+        let mut undoubted = found;
+        let doubtful = replace(&mut undoubted.doubtful, none);
         Ok(LintFindings {
             undoubted,
             doubtful,

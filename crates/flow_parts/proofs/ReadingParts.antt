@@ -33,7 +33,8 @@ use Rattle.flow_reports.specs.declared.remark.Remark.{Remark}
 use Rattle.flow_reports.specs.declared.remark.Remark.TheVariants.{NeverReached, Unset, Computed, VeryBusy, Dead}
 use Rattle.part_texts.specs.Lines.{Line, behind_space, is_colon, is_line_feed, is_space, read_line, read_number}
 use Rattle.part_texts.specs.Lines.{kind_of as kind_by_words}
-use Rattle.part_texts.specs.Parts.{Heading, Part, end_words, fault_behind, heading_from, heading_of, is_end, most_parts, numbered, read_heading}
+use Rattle.part_texts.specs.Parts.{Heading, Part, end_words, fault_behind, heading_from, heading_of, is_end, numbered, read_heading}
+use Rattle.part_texts.specs.Shares.{most_parts}
 use Rattle.part_texts.specs.Parts.{read_lines, read_part, read_rows}
 use Rattle.part_texts.specs.Parts.{with_line, with_lines}
 use Rattle.part_texts.specs.declared.fault.PartFault.{PartFault}

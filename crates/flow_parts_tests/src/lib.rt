@@ -5,3 +5,5 @@
 mod merge_tests;
 #[cfg(test)]
 mod part_tests;
+#[cfg(test)]
+mod refusal_tests;

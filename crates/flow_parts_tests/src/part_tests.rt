@@ -1,5 +1,7 @@
 // Parts of a worked program.
 
+ghost use Rattle.std.specs.Prelude.{◌≤◌};
+
 use flow_graph::Graph;
 use flow_parts::{digest, part_here};
 use flow_reports::report_here;
@@ -22,19 +24,41 @@ const REPORT: &[u8] =
     b"points 14, variables 6, definitions 13, expressions 2\n6: a + b is already computed\n7: a * b is very busy\n\
     12: assignment to x is dead\n15: count may be used before it is set\n17: never reached\n";
 
+// A part of the report on a text's program.
+fn part(alloc: Global, text: &[u8], count: u32, number: u32) -> Result<Vec<u8>, Fail>
+    requires first { 1 ≤ number }
+    requires last { number ≤ count }
+    requires few { count ≤ 4096 }
+{
+    let program = read(alloc, text)?;
+    let graph = Graph::build(alloc, &program)?;
+    Ok(part_here(alloc, &graph, b"0a", count, number)?)
+}
+
+// The report.
+fn report(alloc: Global, text: &[u8]) -> Result<Vec<u8>, Fail> {
+    let program = read(alloc, text)?;
+    let graph = Graph::build(alloc, &program)?;
+    Ok(report_here(alloc, &graph)?)
+}
+
+// What parts make.
+fn merged(alloc: Global, parts: &[&[u8]]) -> Result<Vec<u8>, Fail> {
+    match merge(alloc, parts)? {
+        Ok(text) => Ok(text),
+        Err(_) => Err(Fail::from("a fault")),
+    }
+}
+
 #[test]
 fn parts_of_remarks(rt: HostRuntime) -> Result<(), Fail> {
-    let alloc = rt.alloc();
-    let program = read(alloc, remarks::TEXT.as_bytes())?;
-    let graph = Graph::build(alloc, &program)?;
-    let one = part_here(alloc, &graph, b"0a", 2, 1)?;
+    let text = remarks::TEXT.as_bytes();
+    let one = part(rt.alloc(), text, 2, 1)?;
     assert_eq!(rt; one.as_slice(), ONE);
-    let two = part_here(alloc, &graph, b"0a", 2, 2)?;
+    let two = part(rt.alloc(), text, 2, 2)?;
     assert_eq!(rt; two.as_slice(), TWO);
-    match merge(alloc, &[two.as_slice(), one.as_slice()])? {
-        Ok(text) => assert_eq!(rt; text.as_slice(), REPORT),
-        Err(_) => return Err(Fail::from("a fault")),
-    }
+    let all = merged(rt.alloc(), &[two.as_slice(), one.as_slice()])?;
+    assert_eq!(rt; all.as_slice(), REPORT);
     Ok(())
 }
 
@@ -49,28 +73,33 @@ fn many_variables(alloc: Global) -> Result<String, Fail> {
     Ok(text)
 }
 
-// The variables and the expressions are three groups each. `r` is the first variable, so that v511 is the first of part 2.
-#[test]
-fn parts_of_many_variables(rt: HostRuntime) -> Result<(), Fail> {
-    let alloc = rt.alloc();
-    let text = many_variables(alloc)?;
-    let program = read(alloc, text.as_bytes())?;
-    let graph = Graph::build(alloc, &program)?;
-    let one = part_here(alloc, &graph, b"0a", 3, 1)?;
-    let two = part_here(alloc, &graph, b"0a", 3, 2)?;
-    let three = part_here(alloc, &graph, b"0a", 3, 3)?;
-    assert!(rt; one.ends_with(b"\n1101: assignment to r is dead\nend 1\n"));
+// Where the parts of that program begin and end.
+fn check_ends<R: Abort>(rt: &R, one: &[u8], two: &[u8], three: &[u8]) {
     let two_begins =
         b"part 2 of 3 of 0a\npoints 1101, variables 1101, definitions 2201, expressions 1100\n\
         513: v511 may be used before it is set\n";
+    assert!(rt; one.ends_with(b"\n1101: assignment to r is dead\nend 1\n"));
     assert!(rt; two.starts_with(two_begins));
     assert!(rt; two.ends_with(b"1024: v1022 may be used before it is set\nend 2\n"));
     assert!(rt; three.ends_with(b"1101: v1099 may be used before it is set\nend 3\n"));
-    let report = report_here(alloc, &graph)?;
-    match merge(alloc, &[three.as_slice(), one.as_slice(), two.as_slice()])? {
-        Ok(text) => assert_eq!(rt; text.as_slice(), report.as_slice()),
-        Err(_) => return Err(Fail::from("a fault")),
-    }
+}
+
+// The variables and the expressions are three groups each. `r` is the first variable, so that v511 is the first of part 2.
+#[test]
+fn parts_of_many_variables(rt: HostRuntime) -> Result<(), Fail> {
+    let text = many_variables(rt.alloc())?;
+    let one = part(rt.alloc(), text.as_bytes(), 3, 1)?;
+    let two = part(rt.alloc(), text.as_bytes(), 3, 2)?;
+    let three = part(rt.alloc(), text.as_bytes(), 3, 3)?;
+    check_ends(&rt, &one, &two, &three);
+    let all = merged(
+        rt.alloc(),
+        &[three.as_slice(), one.as_slice(), two.as_slice()],
+    )?;
+    assert_eq!(rt;
+        all.as_slice(),
+        report(rt.alloc(), text.as_bytes())?.as_slice()
+    );
     Ok(())
 }
 

@@ -7,7 +7,7 @@ use Rattle.flow_graph.specs.declared.analysis.Analysis.TheVariants.{Reach}
 use Rattle.flow_reports.specs.Reports.{IsKnowledge, Knowledge, remarks_at}
 use Rattle.flow_reports.specs.declared.remark.Remark.{Remark}
 use Rattle.flow_reports.specs.declared.remark.Remark.TheVariants.{NeverReached, Unset, Computed, VeryBusy, Dead}
-use Rattle.flow_views.specs.Json.{array, json_with, remark_head}
+use Rattle.flow_views.specs.Json.{array, end_line, json_with, remark_head}
 use Rattle.flow_views.specs.Views.{shown_points}
 use Rattle.flow_views.specs.declared.view.View.{View}
 use Rattle.flow_why.specs.Witnesses.{IsWitness}
@@ -42,7 +42,7 @@ remark_with_path hops sets program point remark =
 
 abbrev pub json_with_paths : (ℕ → ℕ → List Hop) → Sets → List Doubt → Program → Knowledge → View → List ℕ
 json_with_paths hops sets doubts program known view =
-    json_with (remark_with_path hops sets) program known view ++ flat_map (doubt_line program) doubts
+    json_with (remark_with_path hops sets) program known view ++ flat_map (doubt_line program) doubts ++ end_line program view
 
 -- For each such remark that is shown, the hops are a witness: some valid path brings the value at the beginning to the point, and each path
 -- to which they unfold does.

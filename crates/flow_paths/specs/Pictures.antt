@@ -46,11 +46,11 @@ point_mark shows point = if shows point then codes "  " ++ decimal point ++ code
 abbrev pub arrow_mark : (ℕ → Bool) → ℕ → ℕ → List ℕ → List ℕ
 arrow_mark shows x y more = if shows x && shows y then arrow x y ++ codes " [color=blue, penwidth=3" ++ more ++ codes "];\n" else []
 
--- a call that is passed as a whole is an edge of its own, to the point behind it
+-- a call that is passed as a whole: the line to the point behind it is dashed then, and has a head
 abbrev pub hop_marks : (ℕ → Bool) → Hop → List ℕ
 hop_marks shows (hop.Step x y) = point_mark shows x ++ arrow_mark shows x y []
 hop_marks shows (hop.Enter site x y) = point_mark shows x ++ arrow_mark shows x y []
-hop_marks shows (hop.Pass site x callee z effect) = point_mark shows x ++ arrow_mark shows x z (codes ", style=dashed")
+hop_marks shows (hop.Pass site x callee z effect) = point_mark shows x ++ arrow_mark shows x z (codes ", style=dashed, arrowhead=normal")
 
 -- The picture, in which marks of a node or an edge are put to what is told of it before: Graphviz does so in a strict graph.
 abbrev pub marked_dot : (ℕ → Bool) → List ℕ → List Hop → ℕ → List ℕ

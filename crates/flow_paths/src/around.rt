@@ -14,7 +14,6 @@ use smallvec::SmallVec;
 use std::alloc::Global;
 
 /// A remark and what stands around it: of each kind of remark some of this, and nothing in the others.
-#[derive(Drop)]
 pub(crate) struct Around {
     /// The remark.
     pub(crate) placed: PlacedRemark,
@@ -28,6 +27,20 @@ pub(crate) struct Around {
     pub(crate) last: Option<u32>,
     /// The edges out of that point.
     pub(crate) edges: SmallVec<Edge, 2, Global>,
+}
+
+impl Drop for Around {
+    // By hand: who gives it up then makes one call.
+    fn drop(self) {
+        let Around {
+            placed: _,
+            met: _,
+            holders: _,
+            may_end: _,
+            last: _,
+            edges: _,
+        } = self;
+    }
 }
 
 // The edges out of a point, where there is one.

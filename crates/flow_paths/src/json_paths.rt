@@ -173,7 +173,6 @@ impl RemarkForm for PathLine<'_> {
 /// It takes one search for each variable of an `unset` remark that is shown. The hops are kept: some 24 bytes each, at most two for each point
 /// and such remark. Each other remark takes a search for each statement that its sets may have, each linear in the program and its edges, and
 /// some 150 bytes.
-#[derive(Drop)]
 pub struct JsonPathsText<'a> {
     graph: &'a Graph<'a>,
     shown: ViewProgram<'a>,
@@ -197,6 +196,18 @@ impl<'a> Model for JsonPathsText<'a> {
 
     ghost invariant = { λ text. AreShown text.shown × (text.shown.names.form ≡ Quoted) × (text.shown.found.graph.now ≡ text.graph.now)
         × All (λ doubt. doubt.point < point_count text.graph.now) text.around.doubts.items };
+}
+
+impl Drop for JsonPathsText<'_> {
+    // By hand: who gives it up then makes one call.
+    fn drop(self) {
+        let JsonPathsText {
+            graph: _,
+            shown: _,
+            paths: _,
+            around: _,
+        } = self;
+    }
 }
 
 // Writes the doubt of an assignment.
@@ -280,5 +291,6 @@ impl<'a> Text for JsonPathsText<'a> {
         };
         self.shown.write_json(&form, out);
         write_doubts(out, self.graph, &self.around.doubts);
+        self.shown.write_end(out);
     }
 }

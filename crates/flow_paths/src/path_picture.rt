@@ -110,7 +110,7 @@ fn write_hop_marks<K: Sink>(out: &mut Pieces<'_, K>, shown: Shown, hop: Hop)
             callee: _,
             to,
             effect: _,
-        } => write_marks(out, shown, from, to, b", style=dashed"),
+        } => write_marks(out, shown, from, to, b", style=dashed, arrowhead=normal"),
     }
 }
 
@@ -127,9 +127,8 @@ fn write_path_marks<K: Sink>(out: &mut Pieces<'_, K>, shown: Shown, hops: &[Hop]
 /// The picture of a program as `DotText` has it, in which one path is marked: a way from the beginning of `main` to a use of a variable, on
 /// which nothing sets it.
 ///
-/// Each node and edge of the path is blue and thick. A call that is passed as a whole has a dashed edge to the point behind it. The graph is
+/// Each node and edge of the path is blue and thick. The line from a call that is passed as a whole is dashed and has a head. The graph is
 /// strict: Graphviz then takes what is told of an edge twice as told of one.
-#[derive(Drop)]
 pub struct PathDotText<'a> {
     shown: ViewProgram<'a>,
     points: Shown,
@@ -152,6 +151,18 @@ impl<'a> Model for PathDotText<'a> {
         (hops_at text.paths text.one.point text.one.variable) text.one.point };
 
     ghost invariant = { λ text. AreShown text.shown × (text.shown.names.form ≡ Escaped) };
+}
+
+impl Drop for PathDotText<'_> {
+    // By hand: who gives it up then makes one call.
+    fn drop(self) {
+        let PathDotText {
+            shown: _,
+            points: _,
+            paths: _,
+            one: _,
+        } = self;
+    }
 }
 
 impl<'a> PathDotText<'a> {

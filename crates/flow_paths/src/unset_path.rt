@@ -10,7 +10,8 @@ ghost use Rattle.flow_paths.specs.code.UnsetPaths.{use_of};
 
 use crate::OutOfMemory;
 use flow_reports::UnsetUse;
-use flow_why::{Hop, Why};
+use flow_why::Hop;
+use flow_witnesses::Why;
 use std::alloc::Global;
 
 /// A use of a variable that may not be set there, and the hops of a witness of it.

@@ -22,7 +22,6 @@ use std::alloc::Global;
 use std::marker::Model;
 
 /// Queries of a program, the word that answers each, and for each point whether a valid path leads to it, and from it to the end of `main`.
-#[derive(Drop)]
 pub struct Answers {
     queries: Vec<Query>,
     words: Vec<u64>,
@@ -36,6 +35,18 @@ impl Model for Answers {
     ghost Value = { Replies };
 
     ghost view = { λ a. record { queries = a.queries.items; words = a.words.items; forward = a.forward.items; backward = a.backward.items } };
+}
+
+impl Drop for Answers {
+    // By hand: who gives it up then makes one call.
+    fn drop(self) {
+        let Answers {
+            queries: _,
+            words: _,
+            forward: _,
+            backward: _,
+        } = self;
+    }
 }
 
 /// The query of a number.

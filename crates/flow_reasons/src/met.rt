@@ -9,7 +9,8 @@ ghost use Rattle.flow_reasons.specs.code.Marks.{IsMet, Meets};
 
 use crate::OutOfMemory;
 use flow_graph::Graph;
-use flow_why::{PointBit, PointWhy, Space, Ways};
+use flow_why::{PointBit, Ways};
+use flow_witnesses::{PointWhy, Space};
 use std::alloc::Global;
 
 /// Whether some valid path to a point has a bit.
@@ -70,28 +71,6 @@ fn meets(
     space.path_has(alloc, search.ways, search.graph, &bit, search.at)
 }
 
-// Whether a statement is marked and met.
-fn is_met(
-    alloc: Global,
-    search: &Search<'_, '_>,
-    wanted: &[bool],
-    space: Space,
-    point: u32,
-) -> Result<(bool, Space), OutOfMemory>
-    requires graph { search.now.graph.now ≡ search.now.ways.now.linked.program }
-    requires at { search.now.at < point_count search.now.ways.now.linked.program }
-    requires space { space ≡ point_count search.now.ways.now.linked.program }
-    requires below { point < length wanted.now }
-    ensures has { IfOk result (λ found. (found.0 ≡ true)
-        ↔ IsMet search.now.ways.now.linked wanted.now search.now.stops.now search.now.at point) }
-    ensures space { IfOk result (λ found. found.1 ≡ point_count search.now.ways.now.linked.program) }
-{
-    if !wanted[point as usize] {
-        return Ok((false, space));
-    }
-    meets(alloc, search, space, point)
-}
-
 /// Those of some marked statements that are met.
 pub(crate) fn met_points(
     alloc: Global,
@@ -106,9 +85,12 @@ pub(crate) fn met_points(
     let mut list = Vec::new(alloc);
     let mut space = Space::of(alloc, search.ways)?;
     for point in 0..search.graph.points() {
-        let (has, left) = is_met(alloc, search, wanted, space, point)?;
-        space = left;
-        put_if(&mut list, point, has)?;
+        // An owner that moves costs far more than the test: few are marked.
+        if wanted[point as usize] {
+            let (has, left) = meets(alloc, search, space, point)?;
+            space = left;
+            put_if(&mut list, point, has)?;
+        }
     }
     Ok(list)
 }

@@ -15,7 +15,8 @@ use crate::fault::Fault;
 use crate::rooms::put_list;
 use flow_graph::{Analysis, Graph, OutOfMemory};
 use flow_kept::Kept;
-use flow_why::{Effect, Hop, Ways, Why};
+use flow_why::{Effect, Hop, Ways};
+use flow_witnesses::witness_at;
 use gen_kill::Problem;
 use std::alloc::Global;
 
@@ -133,8 +134,7 @@ fn witness_over(
         (λ hops. IsWitness (may_shape problem.now.program problem.now.analysis) (column_transfer problem.now column) point hops.items)) }
 {
     let ways = Ways::of(alloc, problem)?;
-    let why = Why::of(alloc, &ways, problem, column)?;
-    why.witness(alloc, point)
+    witness_at(alloc, &ways, problem, column, point)
 }
 
 // A witness of a bit of an analysis at a point.

@@ -15,7 +15,8 @@ use crate::rooms::put_list;
 use crate::why::{NumberedHop, hop_of};
 use flow_graph::{Analysis, Graph, OutOfMemory};
 use flow_kept::Kept;
-use flow_why::{Hop, Ways, Why};
+use flow_why::{Hop, Ways};
+use flow_witnesses::{Why, witness_at};
 use gen_kill::Problem;
 use std::alloc::Global;
 
@@ -85,6 +86,38 @@ fn tell(
     }
 }
 
+// Tells of a bit that is asked at this point alone, by a search for the point.
+fn tell_alone(
+    alloc: Global,
+    ways: &Ways,
+    problem: &Problem<'_, '_>,
+    asked: NumberedWhy,
+    told: &mut Told,
+) -> Result<(), OutOfMemory>
+    requires all { problem.now.chosen ≡ None }
+    requires ways { ways.now.linked ≡ direction_of problem.now }
+    requires there { IsAskedIn problem.now asked }
+    ensures { OnOk result (IsToldMore problem.now asked told.old.whys.items told.new.whys.items told.old.hops.items told.new.hops.items) }
+{
+    match witness_at(alloc, ways, problem, asked.bit, asked.point)? {
+        None => put_why(told, asked, 0),
+        Some(found) => {
+            put_hops(&mut told.hops, found.as_slice())?;
+            put_why(told, asked, 1)
+        }
+    }
+}
+
+// Whether the next one asks for the same bit.
+fn is_asked_again(asked: &[NumberedWhy], from: usize) -> bool
+    requires { from < length asked.now }
+{
+    match asked.get(from + 1) {
+        Some(next) => next.bit == asked[from].bit,
+        None => false,
+    }
+}
+
 // Tells of those that ask the same bit from one on, and returns behind them.
 fn tell_same(
     alloc: Global,
@@ -103,6 +136,10 @@ fn tell_same(
     ensures told { IfOk result (λ until. (number : ℕ) → AreToldTo problem.now number asked.now from told.old.whys.items told.old.hops.items
         → AreToldTo problem.now number asked.now until told.new.whys.items told.new.hops.items) }
 {
+    if !is_asked_again(asked, from) {
+        tell_alone(alloc, ways, problem, asked[from], told)?;
+        return Ok(from + 1);
+    }
     let bit = asked[from].bit;
     let why = Why::of(alloc, ways, problem, bit)?;
     tell(alloc, &why, asked[from], &mut *told)?;

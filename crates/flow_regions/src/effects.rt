@@ -5,7 +5,7 @@ ghost use Rattle.flow_graph.specs.Points.{point_count};
 ghost use Rattle.gen_kill.specs.Selections.{column_boundary, column_count};
 ghost use Rattle.flow_regions.specs.code.Effects.{ArePut, AreTold, has_effect};
 ghost use Rattle.flow_regions.specs.code.Lists.{AreLow};
-ghost use Rattle.flow_regions.specs.code.Touches.{AreMarked, AreTouches};
+ghost use Rattle.flow_regions.specs.code.Touches.{HaveTouches};
 
 use crate::lists::Lists;
 use gen_kill::Problem;
@@ -85,14 +85,12 @@ fn put_column(
 pub fn put_words(
     problem: &Problem<'_, '_>,
     does: Does,
-    marked: &[bool],
     touches: &Lists,
     columns: &[u32],
     places: &[u32],
     words: &mut [u64],
 )
-    requires marked { AreMarked marked.now columns.now }
-    requires touches { AreTouches problem.now marked.now touches.now }
+    requires touches { HaveTouches problem.now columns.now touches.now }
     requires columns { AreLow (column_count problem.now) columns.now }
     requires few { length columns.now ≤ 64 }
     requires places { length places.now ≡ point_count problem.now.program }
@@ -100,7 +98,6 @@ pub fn put_words(
     ensures count { length words.new ≡ length words.old }
     ensures told { AreTold problem.now does columns.now (length columns.now) places.now (length words.old) words.new }
 {
-    let _ = marked;
     for number in 0..columns.len() {
         let member = Member {
             column: columns[number],

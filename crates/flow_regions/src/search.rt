@@ -19,7 +19,6 @@ pub struct Hung {
 }
 
 /// How points and procedures are found, each behind those from which it is.
-#[derive(Drop)]
 pub struct Found {
     pub order: Vec<u32>,
     /// By point the one from which it is found, and the exit of the callee, where a call is passed.
@@ -28,6 +27,19 @@ pub struct Found {
     pub tree: Vec<Hung>,
     // By point whether it is found.
     seen: Vec<bool>,
+}
+
+impl Drop for Found {
+    // By hand: who gives it up then makes one call.
+    fn drop(self) {
+        let Found {
+            order: _,
+            before: _,
+            exits: _,
+            tree: _,
+            seen: _,
+        } = self;
+    }
 }
 
 impl Found {

@@ -9,7 +9,6 @@ use flow_links::Links;
 use std::alloc::Global;
 
 /// Memory that regions use one after the other for their paths.
-#[derive(Drop)]
 pub struct Wanted {
     /// The points that are wanted, each behind those from which it is found.
     pub order: Vec<u32>,
@@ -20,6 +19,19 @@ pub struct Wanted {
     // By point whether it is wanted, and points that wait for others.
     marks: Vec<bool>,
     waiting: Vec<u32>,
+}
+
+impl Drop for Wanted {
+    // By hand: who gives it up then makes one call.
+    fn drop(self) {
+        let Wanted {
+            order: _,
+            numbers: _,
+            callers: _,
+            marks: _,
+            waiting: _,
+        } = self;
+    }
 }
 
 impl Wanted {

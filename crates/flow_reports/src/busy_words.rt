@@ -23,6 +23,14 @@ pub(crate) struct BusyWord {
     pub(crate) mask: u64,
 }
 
+/// A word of a set: its ones stand for the numbers from the first on and before the end.
+#[derive(Clone, Copy)]
+pub(crate) struct WordOnes {
+    pub(crate) ones: u64,
+    pub(crate) first: u32,
+    pub(crate) end: u32,
+}
+
 /// A round of queries: the words from one on, so many of each test's set, behind so many other queries.
 #[derive(Clone, Copy)]
 pub(crate) struct Round {
@@ -35,12 +43,21 @@ pub(crate) struct Round {
 }
 
 /// The words with a bit of the tests' sets of very busy expressions, in a list for each test: most words of most sets have none.
-#[derive(Drop)]
 pub(crate) struct BusyWords {
     /// The number of each test's first word, counted from 1; 0 where it has none.
     pub(crate) firsts: Vec<u32>,
     /// The words of all tests.
     pub(crate) words: Vec<BusyWord>,
+}
+
+impl Drop for BusyWords {
+    // By hand: who gives it up then makes one call.
+    fn drop(self) {
+        let BusyWords {
+            firsts: _,
+            words: _,
+        } = self;
+    }
 }
 
 // How many answers from one on have a bit.

@@ -16,7 +16,6 @@ use std::alloc::Global;
 use text_pieces::TextBlock;
 
 /// What was found of a program: answers to what a report asks, for each point whether it is doubtful, and what its expressions are called.
-#[derive(Drop)]
 pub struct Findings<'a> {
     /// The program.
     pub graph: &'a Graph<'a>,
@@ -26,6 +25,18 @@ pub struct Findings<'a> {
     pub doubtful: Vec<bool>,
     /// The texts of its expressions.
     pub expressions: TextBlock,
+}
+
+impl Drop for Findings<'_> {
+    // By hand: who gives it up then makes one call.
+    fn drop(self) {
+        let Findings {
+            graph: _,
+            answers: _,
+            doubtful: _,
+            expressions: _,
+        } = self;
+    }
 }
 
 impl<'a> Findings<'a> {

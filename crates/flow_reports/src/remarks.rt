@@ -15,6 +15,7 @@ ghost use Rattle.flow_reports.specs.Reports.{remarks_when_reached, unset_at};
 ghost use Rattle.flow_reports.specs.code.Answered.{query_for};
 ghost use Rattle.flow_reports.specs.declared.remark.Remark.TheVariants.{Computed, Dead, Unset, VeryBusy};
 
+use crate::busy_words::WordOnes;
 use crate::findings::Findings;
 use crate::operands::{VariablesRead, assigned_variable, is_test, variables_read};
 use crate::remark::Remark;
@@ -196,27 +197,26 @@ impl Findings<'_> {
         form.write_remark(out, self, point, Remark::Computed { expression: bit });
     }
 
-    // Writes which expressions of a word are very busy: those of its ones that stand for the expressions from `first` on and before `end`.
+    // Writes which expressions of a word are very busy: those of its ones that stand for the expressions of its range.
     fn write_busy_word<F: RemarkForm, K: Sink>(
         &self,
         form: &F,
         out: &mut Pieces<'_, K>,
         point: u32,
-        ones: u64,
-        first: u32,
-        end: u32,
+        word: WordOnes,
     )
         requires ready { CanWrite K.Sink out.old }
         requires found { AreFindings self.now }
         requires point { point < point_count self.now.graph.now }
-        requires word { (k : ℕ) → k < 64 → has_bit ones k ≡ (knowledge_of self.now).busy.contains point (first + k) }
-        requires ordered { first ≤ end }
-        requires width { end ≤ first + 64 }
-        requires end { end ≤ bits_of self.now.graph.now Busy }
+        requires word { (k : ℕ) → k < 64 → has_bit word.ones k ≡ (knowledge_of self.now).busy.contains point (word.first + k) }
+        requires ordered { word.first ≤ word.end }
+        requires width { word.end ≤ word.first + 64 }
+        requires end { word.end ≤ bits_of self.now.graph.now Busy }
         ensures { Writes K.Sink out.old out.new
             (texts_where (λ e. F.text form.now self.now.graph.now point (VeryBusy e)) ((knowledge_of self.now).busy.contains point)
-            (range_with_len first (end - first))) }
+            (range_with_len word.first (word.end - word.first))) }
     {
+        let WordOnes { ones, first, end } = word;
         let width = end - first;
         let mut place = next_one(ones, 0);
         while place < width {
@@ -248,7 +248,8 @@ impl Findings<'_> {
         let mut next = self.answers.first_busy(self.answers.places(point).test);
         while let Some(busy) = self.answers.busy_word(next) {
             let (first, end) = (64 * busy.word, bits.min(64 * busy.word + 64));
-            self.write_busy_word(form, out, point, busy.mask, first, end);
+            let ones = busy.mask;
+            self.write_busy_word(form, out, point, WordOnes { ones, first, end });
             next = busy.next;
         }
     }

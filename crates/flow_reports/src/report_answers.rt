@@ -32,7 +32,6 @@ fn width_for<R, G>(team: &Team<'_, R, G>) -> u32
 /// The answers to what a report asks of the four analyses: of reaching definitions, at a statement, whether the values at the beginning of
 /// the variables that it reads are among them; of available expressions the one that it evaluates; of live variables, behind an
 /// assignment, the one that it assigns; of very busy expressions, at a test, all.
-#[derive(Drop)]
 pub struct ReportAnswers {
     answers: Answers,
     places: Vec<PointQueries>,
@@ -50,6 +49,18 @@ impl Model for ReportAnswers {
     ghost view = { λ r. record { replies = r.answers; places = r.places.items; tests = r.tests.items; busy = busy_lists r.busy } };
 
     ghost invariant = { λ r. length r.answers.words ≡ length r.answers.queries };
+}
+
+impl Drop for ReportAnswers {
+    // By hand: who gives it up then makes one call.
+    fn drop(self) {
+        let ReportAnswers {
+            answers: _,
+            places: _,
+            tests: _,
+            busy: _,
+        } = self;
+    }
 }
 
 impl ReportAnswers {

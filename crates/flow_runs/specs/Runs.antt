@@ -45,23 +45,32 @@ pub record Lacking (limits : Limits) (Lacks : Program → Type 0) (text : List �
   pub faultless : refusal_within limits text ≡ None
   pub lacks : Lacks (program_of text)
 
--- The whole text was pulled, and the answer to it was written and nothing else.
-pub record WritesAnswer (limits : Limits) (is_needed : Bool) (IsShown : Program → List ℕ → Type 0) (before after : Option (List ℕ)) (ended : Bool)
-    (held holds : Option (List ℕ)) : Type 0 where
+-- The whole text was pulled, and the answer to it was written and nothing else. What is shown of a program may go by its text too.
+pub record WritesAnswerOf (limits : Limits) (is_needed : Bool) (IsShown : List ℕ → Program → List ℕ → Type 0) (before after : Option (List ℕ))
+    (ended : Bool) (held holds : Option (List ℕ)) : Type 0 where
   pub text : List ℕ
   pub out : List ℕ
   pub pulls : PullsAll limits before after ended text
-  pub outputs : Outputs limits is_needed IsShown text out
+  pub outputs : Outputs limits is_needed (IsShown text) text out
   pub writes : Appends held holds out
 
 -- The whole text was pulled, and a beginning of the answer to it was written.
-pub record WritesBeginning (limits : Limits) (is_needed : Bool) (IsShown : Program → List ℕ → Type 0) (before after : Option (List ℕ)) (ended : Bool)
-    (held holds : Option (List ℕ)) : Type 0 where
+pub record WritesBeginningOf (limits : Limits) (is_needed : Bool) (IsShown : List ℕ → Program → List ℕ → Type 0) (before after : Option (List ℕ))
+    (ended : Bool) (held holds : Option (List ℕ)) : Type 0 where
   pub text : List ℕ
   pub out : List ℕ
   pub pulls : PullsAll limits before after ended text
-  pub outputs : Outputs limits is_needed IsShown text out
+  pub outputs : Outputs limits is_needed (IsShown text) text out
   pub writes : AppendsBeginning held holds out
+
+-- the same where what is shown goes by the program alone
+abbrev pub WritesAnswer : Limits → Bool → (Program → List ℕ → Type 0) → Option (List ℕ) → Option (List ℕ) → Bool → Option (List ℕ)
+    → Option (List ℕ) → Type 0
+WritesAnswer limits is_needed IsShown = WritesAnswerOf limits is_needed (λ text. IsShown)
+
+abbrev pub WritesBeginning : Limits → Bool → (Program → List ℕ → Type 0) → Option (List ℕ) → Option (List ℕ) → Bool → Option (List ℕ)
+    → Option (List ℕ) → Type 0
+WritesBeginning limits is_needed IsShown = WritesBeginningOf limits is_needed (λ text. IsShown)
 
 -- The whole text was pulled, and it is refused so.
 pub record PullsRefused (limits : Limits) (before after : Option (List ℕ)) (ended : Bool) (refusal : Refusal) : Type 0 where

@@ -14,7 +14,7 @@ mod streams;
 pub use arguments::{cut_option, kind_word, number_of, workers_option};
 pub use fault::{Fault, fault_line, line_with};
 pub use output::Output;
-pub use parts::{graph_of, push_text};
+pub use parts::{graph_of, pull_text, push_text};
 pub use reports::push_report;
 pub use runs::run;
 pub use std::alloc::AllocError as OutOfMemory;

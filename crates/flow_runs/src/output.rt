@@ -1,12 +1,13 @@
 // What a run shows of a program.
 
-ghost use Rattle.std.specs.Prelude.{◌≡◌, ◌<◌, ◌+◌, ◌-◌, ◌^◌, ℕ, Bool, true, List, IfErr, OnOk};
+ghost use Rattle.std.specs.Prelude.{◌≡◌, ◌<◌, ◌+◌, ◌-◌, ◌^◌, ℕ, Bool, true, List, IfErr, IfOk, OnOk};
 ghost use Rattle.std.specs.Thread.{IsSync};
 ghost use Rattle.tac_program.specs.Programs.{Program as SourceProgram};
 ghost use Rattle.tac_program.specs.declared.limits.Limits.{Limits as LimitsValue};
 ghost use Rattle.flow_runs.specs.Faults.{Delivers, OfProgram, WhereNoGraph, write_faults_in};
 ghost use Rattle.flow_runs.specs.Runs.{HasItsGraph, IsOverLimit};
 
+use crate::OutOfMemory;
 use crate::fault::Fault;
 use std::alloc::Global;
 use std::thread::Threads;
@@ -21,8 +22,11 @@ pub trait Output {
     // Whether the program's graph is needed.
     ghost needs_graph: { Self → Bool };
 
-    // What is written of a program.
-    ghost is_output: { Self → SourceProgram → List ℕ → Type 0 };
+    // What is kept of a text for what is written of its program.
+    ghost kept: { Self → List ℕ → List ℕ };
+
+    // What is written of a program, where this is kept of its text.
+    ghost is_output: { Self → List ℕ → SourceProgram → List ℕ → Type 0 };
 
     // The program has not the procedure that is asked for.
     ghost lacks: { Self → SourceProgram → Type 0 };
@@ -34,7 +38,12 @@ pub trait Output {
     fn limits(&self) -> Limits
         ensures { result ≡ limits self.now };
 
-    /// Writes what is shown of a program, and flushes. All that it needs memory for it has before the first push.
+    /// What is kept of a text, which is given up before anything is found. Fails only where memory runs out.
+    fn keep(&self, alloc: Global, text: &[u8]) -> Result<Vec<u8>, OutOfMemory>
+        ensures { IfOk result (λ bytes. bytes.items ≡ kept self.now text.now) };
+
+    /// Writes what is shown of a program, by what was kept of its text, and flushes. All that it needs memory for it has before the
+    /// first push.
     ///
     /// The condition: the sink's count of faults is below `u32::MAX`.
     ///
@@ -47,12 +56,13 @@ pub trait Output {
         &self,
         rt: &R,
         alloc: Global,
+        mark: &[u8],
         program: &Program,
         sink: &mut K,
     ) -> Result<(), Fault>
         requires threads { IsSync R.row }
         requires below { K.faults sink.old < 2 ^ 32 - 1 }
-        ensures delivers { Delivers (λ out. HasItsGraph (limits self.now) (needs_graph self.now) program.now × is_output self.now program.now out)
+        ensures delivers { Delivers (λ out. HasItsGraph (limits self.now) (needs_graph self.now) program.now × is_output self.now mark.now program.now out)
             (K.contents sink.old) (K.contents sink.new) result }
         ensures flushed { OnOk result (K.flushed sink.new ≡ true) }
         ensures fault { IfErr result (OfProgram (IsOverLimit (limits self.now) program.now) (lacks self.now program.now)

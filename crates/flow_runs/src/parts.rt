@@ -13,11 +13,7 @@ use tac_program::{Limits, Program};
 use text_pieces::{Sink, Source, Text, TransferFault, deliver, pull_all};
 
 /// Pulls up to the source's end, or this many bytes.
-pub(crate) fn pull_text<S: Source>(
-    alloc: Global,
-    source: &mut S,
-    most: usize,
-) -> Result<Vec<u8>, Fault>
+pub fn pull_text<S: Source>(alloc: Global, source: &mut S, most: usize) -> Result<Vec<u8>, Fault>
     requires below { S.faults source.old < 2 ^ 32 - 1 }
     requires running { S.ended source.old ≡ false }
     ensures pulled { IfOk result (λ text. PullsUpTo most (S.remaining source.old) (S.remaining source.new) (S.ended source.new) text.items) }

@@ -4,7 +4,7 @@ ghost use Rattle.std.specs.Prelude.{◌≡◌, ◌<◌, ◌+◌, ◌-◌, ◌^�
 ghost use Rattle.std.specs.Io.KnownBytes.{Keeps};
 ghost use Rattle.flow_runs.specs.Faults.{UnlessWrite, WhereNoGraph, WhereNoProcedure, WhereNoRemark};
 ghost use Rattle.flow_runs.specs.Faults.{WhereRefused, WhereWrite, read_faults_in, write_faults_in};
-ghost use Rattle.flow_runs.specs.Runs.{PullsLacking, PullsOverLimit, PullsRefused, WritesAnswer, WritesBeginning};
+ghost use Rattle.flow_runs.specs.Runs.{PullsLacking, PullsOverLimit, PullsRefused, WritesAnswerOf, WritesBeginningOf};
 
 use crate::answer::answer;
 use crate::fault::Fault;
@@ -34,7 +34,8 @@ pub fn run<R: Threads + Sync, S: Source, K: Sink, W: Output>(
     requires running { S.ended source.old ≡ false }
     requires source_below { S.faults source.old < 2 ^ 32 - 1 }
     requires sink_below { K.faults sink.old < 2 ^ 32 - 1 }
-    ensures written { OnOk result (WritesAnswer (W.limits output.now) (W.needs_graph output.now) (W.is_output output.now)
+    ensures written { OnOk result (WritesAnswerOf (W.limits output.now) (W.needs_graph output.now)
+        (λ text. W.is_output output.now (W.kept output.now text))
         (S.remaining source.old) (S.remaining source.new) (S.ended source.new) (K.contents sink.old) (K.contents sink.new)) }
     ensures flushed { OnOk result (K.flushed sink.new ≡ true) }
     ensures refused { IfErr result
@@ -45,7 +46,8 @@ pub fn run<R: Threads + Sync, S: Source, K: Sink, W: Output>(
         (S.remaining source.old) (S.remaining source.new) (S.ended source.new))) }
     ensures no_remark { IfErr result (WhereNoRemark (PullsLacking (W.limits output.now) (W.lacks_remark output.now)
         (S.remaining source.old) (S.remaining source.new) (S.ended source.new))) }
-    ensures beginning { IfErr result (WhereWrite (WritesBeginning (W.limits output.now) (W.needs_graph output.now) (W.is_output output.now)
+    ensures beginning { IfErr result (WhereWrite (WritesBeginningOf (W.limits output.now) (W.needs_graph output.now)
+        (λ text. W.is_output output.now (W.kept output.now text))
         (S.remaining source.old) (S.remaining source.new) (S.ended source.new) (K.contents sink.old) (K.contents sink.new))) }
     ensures unwritten { IfErr result (UnlessWrite (Keeps (K.contents sink.old) (K.contents sink.new))) }
     ensures source_faults { S.faults source.new ≡ S.faults source.old + read_faults_in result }

@@ -1,3 +1,4 @@
 pub mod Known
 pub mod Statements
 pub mod Tables
+pub mod Behind

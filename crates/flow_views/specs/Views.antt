@@ -1,8 +1,11 @@
--- What is shown of a program, in both texts: which procedures and points, which analyses, and what a statement is called.
-use Rattle.std.specs.Prelude.{ℕ, suc, ◌+◌, Bool, List, [], ◌∷◌, flat_map, length, Option, Some, None, if◌then◌else◌, codes}
+-- What is shown of a program, in both texts: which procedures and points, which analyses, what a statement and a label are called, and how a
+-- test comes out.
+use Rattle.std.specs.Prelude.{ℕ, suc, ◌+◌, Bool, not, List, [], ◌∷◌, flat_map, length, Option, Some, None, if◌then◌else◌, codes, ◌==◌}
+use Rattle.std.specs.Prelude.{option_and_then, option_map, slice_get, unwrap_or, nat_eq}
 use Rattle.std.specs.List.{filter, range_with_len}
 use Rattle.flow_graph.specs.declared.analysis.TheConstants.Analysis as all
-use Rattle.flow_graph.specs.Points.{end_place, entry_point, point_count, procedure_at}
+use Rattle.flow_graph.specs.Edges.{edges_from}
+use Rattle.flow_graph.specs.Points.{end_place, entry_point, kind_at, place_of, point_count, procedure_at}
 use Rattle.flow_graph.specs.declared.analysis.Analysis.{Analysis}
 use Rattle.flow_graph.specs.declared.analysis.Analysis.TheVariants.{Reach, Live, Avail, Busy}
 use Rattle.flow_team.specs.Tables.{Facts}
@@ -10,6 +13,9 @@ use Rattle.flow_reports.specs.Reports.{Knowledge}
 use Rattle.tac_listing.specs.Listings.{names_in}
 use Rattle.tac_program.specs.Programs.{Program}
 use Rattle.tac_program.specs.Names.{Names, name_at}
+use Rattle.tac_program.specs.declared.program.Label.{Label}
+use Rattle.tac_program.specs.declared.program.StmtKind.{StmtKind}
+use Rattle.tac_program.specs.declared.program.StmtKind.TheVariants as kind
 use Rattle.flow_views.specs.declared.view.Chosen.{Chosen}
 use Rattle.flow_views.specs.declared.view.View.{View}
 
@@ -70,3 +76,37 @@ procedure_name program procedure = name_at program.procedure_names procedure
 
 abbrev pub names_at : Program → ℕ → Names
 names_at program point = names_in program (procedure_at program point)
+
+-- the labels of a procedure, those of a place, and those of a point
+abbrev pub labels_in : Program → ℕ → List Label
+labels_in program procedure = unwrap_or (option_map (λ p. p.labels) (slice_get program.procedures procedure)) []
+
+abbrev pub labels_of_place : ℕ → List Label → List Label
+labels_of_place place labels = filter (λ label. label.place == place) labels
+
+abbrev pub labels_at : Program → ℕ → List Label
+labels_at program point = labels_of_place (place_of program point).place (labels_in program (procedure_at program point))
+
+abbrev pub label_name : Program → ℕ → Label → List ℕ
+label_name program point label = name_at (names_at program point).labels label.name
+
+-- What a test says where its jump is taken, and where it is not; other statements say nothing.
+abbrev pub outcome_of : StmtKind → Bool → Option Bool
+outcome_of (kind.Copy x y) jumps = None
+outcome_of (kind.Unary x op y) jumps = None
+outcome_of (kind.Binary op x y z) jumps = None
+outcome_of (kind.Goto label) jumps = None
+outcome_of (kind.If y label) jumps = Some jumps
+outcome_of (kind.IfFalse y label) jumps = Some (not jumps)
+outcome_of (kind.IfCompare op label y z) jumps = Some jumps
+outcome_of (kind.Call callees) jumps = None
+outcome_of kind.Return jumps = None
+outcome_of (kind.Read x) jumps = None
+outcome_of (kind.Print y) jumps = None
+outcome_of kind.Skip jumps = None
+
+-- The outcome of a test by which control goes from a point to another: none where both outcomes lead to one point.
+abbrev pub outcome : Program → ℕ → ℕ → Option Bool
+outcome program source target =
+    if nat_eq (length (edges_from program source)) 2
+    then option_and_then (λ k. outcome_of k (not (nat_eq target (suc source)))) (kind_at program source) else None

@@ -1,22 +1,24 @@
 // The text for Graphviz.
 
-ghost use Rattle.std.specs.Prelude.{◌≡◌, ◌++◌, ◌<◌, ◌≤◌, All, Some, flat_map, length, if◌then◌else◌, IfOk, IfSome, codes, decimal};
-ghost use Rattle.flow_graph.specs.Paths.{target_of};
+ghost use Rattle.std.specs.Prelude.{◌≡◌, ◌++◌, ◌<◌, ◌≤◌, ◌&&◌, true, All, None, Some, flat_map, length, if◌then◌else◌, IfOk, IfSome, codes, decimal};
+ghost use Rattle.flow_graph.specs.Analyses.{main_procedure};
 ghost use Rattle.flow_graph.specs.Points.{point_count, procedure_at, statement_at};
-ghost use Rattle.flow_team.specs.Tables.{facts_of};
 ghost use Rattle.text_pieces.specs.Pieces.{CanWrite, Writes};
 ghost use Rattle.flow_reports.specs.Reports.{dead_at, remark_text, unset_at};
 ghost use Rattle.flow_reports.specs.code.Reported.{TellReport};
 ghost use Rattle.flow_texts.specs.Tables.{line_at};
 ghost use Rattle.tac_listing.specs.Listings.{statement_text};
 ghost use Rattle.flow_views.specs.ViewTables.{AreViewTables};
-ghost use Rattle.flow_views.specs.code.ViewProgram.{AreShown, AreShownProcedures, IsShownPoint, IsShownProcedure, IsSiteIn, TellSame};
+ghost use Rattle.flow_views.specs.code.ViewProgram.{AreShown, AreShownProcedures, IsShownPoint, IsShownProcedure, IsShownTable, IsEndIn};
 ghost use Rattle.flow_views.specs.code.ViewProgram.{known_of, numbers_of};
 ghost use Rattle.flow_views.specs.declared.names.NameForm.TheVariants.{Escaped};
-ghost use Rattle.flow_views.specs.Dots.{IsDot, arrow, calls_at, cluster, edge_line, edge_lines, fact_line, head, is_call, is_edge_shown, open_dot};
-ghost use Rattle.flow_views.specs.Dots.{label_line, label_lines, marks, node, passed_call, path_marks, shown_edge, text_if_some, title};
+ghost use Rattle.flow_views.specs.Dots.{IsDot, across, all_clusters, arrow, behind_if, cluster, edge_line, edge_lines, fact_line, fact_lines, head};
+ghost use Rattle.flow_views.specs.Dots.{is_edge_shown, label_line, label_lines, label_title, marks, node, open_dot, outcome_label, outcome_mark, passed_call};
+ghost use Rattle.flow_views.specs.Dots.{path_marks, set_text, shown_clusters, shown_edge, text_if_some, title};
+ghost use Rattle.point_sets.specs.Sets.{has_behind};
+ghost use Rattle.point_sets.specs.declared.side.Side.TheVariants.{Behind};
 ghost use Rattle.text_pieces.specs.Strings.{escaped};
-ghost use Rattle.flow_views.specs.Views.{analysis_if, chosen_analyses, names_at, procedure_name, known_facts, is_chosen};
+ghost use Rattle.flow_views.specs.Views.{analysis_if, chosen_analyses, names_at, outcome, procedure_name, is_chosen};
 
 use crate::OutOfMemory;
 use crate::names::NameForm;
@@ -29,11 +31,12 @@ use flow_reports::{
     Findings, Remark, RemarkForm, ReportAnswers, words_before_name, words_behind_name,
 };
 use flow_team::Table;
-use flow_texts::{line, write_number, write_set};
+use flow_texts::{line, write_number};
+use point_sets::{PointSet, Side, calls_at, has_behind, side_text, target_of, write_point_set};
 use std::alloc::Global;
 use std::marker::Model;
 use tac_listing::write_escaped_number;
-use tac_program::{Stmt, StmtKind};
+use tac_program::{Label, Stmt};
 use text_pieces::{Pieces, Sink, Text, write_escaped, write_if, write_quoted};
 
 // A remark as a line of a label.
@@ -68,6 +71,10 @@ fn write_arrow<K: Sink>(out: &mut Pieces<'_, K>, source: u32, target: u32)
     write_number(out, target);
 }
 
+// What an edge between procedures looks like, up to its word.
+const ACROSS: &[u8] =
+    b" [style=dashed, color=grey60, fontcolor=grey40, constraint=false, xlabel=\"";
+
 // Writes what the text begins with.
 fn write_head<K: Sink>(out: &mut Pieces<'_, K>)
     requires { CanWrite K.Sink out.old }
@@ -79,38 +86,42 @@ fn write_head<K: Sink>(out: &mut Pieces<'_, K>)
     out.write(b"  edge [fontname=\"monospace\", fontsize=10];\n");
 }
 
-// The point that an edge leads to.
-fn target(edge: Edge) -> u32
-    ensures { result ≡ target_of edge }
+// Writes how a test comes out, as the label of an edge.
+fn write_outcome_label<K: Sink>(out: &mut Pieces<'_, K>, holds: bool)
+    requires { CanWrite K.Sink out.old }
+    ensures { Writes K.Sink out.old out.new (outcome_label holds) }
 {
-    match edge {
-        Edge::Step { to, .. } => to,
-        Edge::Call { to, .. } => to,
-        Edge::Ret { to, .. } => to,
-    }
-}
-
-// Whether a statement is a call.
-fn is_call(kind: &StmtKind) -> bool
-    ensures { result ≡ is_call kind.now }
-{
-    match kind {
-        StmtKind::Copy { .. } => false,
-        StmtKind::Unary { .. } => false,
-        StmtKind::Binary { .. } => false,
-        StmtKind::Goto { .. } => false,
-        StmtKind::If { .. } => false,
-        StmtKind::IfFalse { .. } => false,
-        StmtKind::IfCompare { .. } => false,
-        StmtKind::Call { .. } => true,
-        StmtKind::Return => false,
-        StmtKind::Read { .. } => false,
-        StmtKind::Print { .. } => false,
-        StmtKind::Skip => false,
+    if holds {
+        out.write(b" [label=\"T\"]");
+    } else {
+        out.write(b" [label=\"F\"]");
     }
 }
 
 impl ViewProgram<'_> {
+    // Writes a label as a line.
+    fn write_label_line<K: Sink>(&self, out: &mut Pieces<'_, K>, point: u32, label: Label)
+        requires ready { CanWrite K.Sink out.old }
+        requires point { point < point_count self.now.found.graph.now }
+        ensures { Writes K.Sink out.old out.new (label_line (label_title self.now.found.graph.now point label)) }
+    {
+        write_escaped(out, self.label_name(point, label));
+        out.write(b":");
+        out.write(b"\\l");
+    }
+
+    // Writes labels of a point, each as a line.
+    fn write_label_lines<K: Sink>(&self, out: &mut Pieces<'_, K>, point: u32, labels: &[Label])
+        requires ready { CanWrite K.Sink out.old }
+        requires point { point < point_count self.now.found.graph.now }
+        ensures { Writes K.Sink out.old out.new
+            (flat_map (λ label. label_line (label_title self.now.found.graph.now point label)) labels.now) }
+    {
+        for label in labels {
+            self.write_label_line(out, point, *label);
+        }
+    }
+
     // Writes the title of a statement.
     fn write_statement_title<K: Sink>(&self, out: &mut Pieces<'_, K>, point: u32, stmt: &Stmt)
         requires ready { CanWrite K.Sink out.old }
@@ -150,30 +161,80 @@ impl ViewProgram<'_> {
         }
     }
 
-    // Writes what an analysis tells at a point.
+    // Writes the set of an analysis on a side of a statement.
+    fn write_set_on<K: Sink>(&self, out: &mut Pieces<'_, K>, table: &Table, point: u32, side: Side)
+        requires ready { CanWrite K.Sink out.old }
+        requires shown { AreShown self.now }
+        requires form { self.now.names.form ≡ Escaped }
+        requires table { IsShownTable self.now table.now }
+        requires point { point < point_count self.now.found.graph.now }
+        requires shows { IsShownPoint self.now point }
+        requires side { side ≡ Behind → has_behind self.now.found.graph.now point ≡ true }
+        ensures { Writes K.Sink out.old out.new
+            (escaped (set_text self.now.found.graph.now (known_of self.now) self.now.view point table.now.analysis side)) }
+    {
+        let set = PointSet {
+            graph: self.found.graph,
+            table,
+            edges: self.edges(point),
+            point,
+            side,
+            hides_entry: self.view.look.hides_entry,
+        };
+        write_point_set(out, self.names(table.analysis()), &set);
+    }
+
+    // Writes it as a line.
     fn write_fact_line<K: Sink>(
         &self,
         out: &mut Pieces<'_, K>,
         table: &Table,
         point: u32,
-        analysis: Analysis,
+        side: Side,
     )
         requires ready { CanWrite K.Sink out.old }
         requires shown { AreShown self.now }
         requires form { self.now.names.form ≡ Escaped }
-        requires facts { TellSame (facts_of table.now) (known_facts (known_of self.now) analysis) point }
+        requires table { IsShownTable self.now table.now }
         requires point { point < point_count self.now.found.graph.now }
-        requires there { point < length table.now.paths }
-        ensures { Writes K.Sink out.old out.new (label_line (fact_line self.now.found.graph.now (known_of self.now) point analysis)) }
+        requires shows { IsShownPoint self.now point }
+        requires side { side ≡ Behind → has_behind self.now.found.graph.now point ≡ true }
+        ensures { Writes K.Sink out.old out.new
+            (label_line (fact_line self.now.found.graph.now (known_of self.now) self.now.view point table.now.analysis side)) }
     {
-        write_escaped(out, analysis_name(analysis));
-        out.write(b": ");
-        let bits = self.found.graph.bits(analysis);
-        write_set(out, self.names(analysis), table, point, bits);
+        write_escaped(out, analysis_name(table.analysis()));
+        write_escaped(out, side_text(side));
+        self.write_set_on(out, table, point, side);
         out.write(b"\\l");
     }
 
-    // Writes it where the analysis is chosen.
+    // Whether the sets behind the statement at a point are shown.
+    fn shows_behind(&self, point: u32) -> bool
+        requires { point < point_count self.now.found.graph.now }
+        ensures { result ≡ (self.now.view.look.behind && has_behind self.now.found.graph.now point) }
+    {
+        self.view.look.behind && has_behind(self.found.graph, point)
+    }
+
+    // Writes what an analysis tells behind a statement, where that is shown.
+    fn write_behind_if<K: Sink>(&self, out: &mut Pieces<'_, K>, table: &Table, point: u32)
+        requires ready { CanWrite K.Sink out.old }
+        requires shown { AreShown self.now }
+        requires form { self.now.names.form ≡ Escaped }
+        requires table { IsShownTable self.now table.now }
+        requires point { point < point_count self.now.found.graph.now }
+        requires shows { IsShownPoint self.now point }
+        ensures { Writes K.Sink out.old out.new
+            (flat_map (λ s. label_line (fact_line self.now.found.graph.now (known_of self.now) self.now.view point table.now.analysis s))
+            (behind_if (self.now.view.look.behind && has_behind self.now.found.graph.now point))) }
+    {
+        if !self.shows_behind(point) {
+            return;
+        }
+        self.write_fact_line(out, table, point, Side::Behind);
+    }
+
+    // Writes what an analysis tells at a point, where it is chosen.
     fn write_fact_if<K: Sink>(&self, out: &mut Pieces<'_, K>, point: u32, analysis: Analysis)
         requires ready { CanWrite K.Sink out.old }
         requires shown { AreShown self.now }
@@ -181,13 +242,14 @@ impl ViewProgram<'_> {
         requires point { point < point_count self.now.found.graph.now }
         requires shows { IsShownPoint self.now point }
         ensures { Writes K.Sink out.old out.new
-            (flat_map (λ a. label_line (fact_line self.now.found.graph.now (known_of self.now) point a))
+            (flat_map (λ a. flat_map label_line (fact_lines self.now.found.graph.now (known_of self.now) self.now.view point a))
             (analysis_if (is_chosen self.now.view.facts analysis) analysis)) }
     {
         let Some(table) = self.table(analysis) else {
             return;
         };
-        self.write_fact_line(out, table, point, analysis);
+        self.write_fact_line(out, table, point, Side::Before);
+        self.write_behind_if(out, table, point);
     }
 
     // Writes what the chosen analyses tell at a point.
@@ -198,7 +260,8 @@ impl ViewProgram<'_> {
         requires point { point < point_count self.now.found.graph.now }
         requires shows { IsShownPoint self.now point }
         ensures { Writes K.Sink out.old out.new
-            (flat_map (λ a. label_line (fact_line self.now.found.graph.now (known_of self.now) point a)) (chosen_analyses self.now.view.facts)) }
+            (flat_map (λ a. flat_map label_line (fact_lines self.now.found.graph.now (known_of self.now) self.now.view point a))
+            (chosen_analyses self.now.view.facts)) }
     {
         for analysis in Analysis::ALL {
             self.write_fact_if(out, point, analysis);
@@ -213,8 +276,9 @@ impl ViewProgram<'_> {
         requires point { point < point_count self.now.found.graph.now }
         requires shows { IsShownPoint self.now point }
         ensures { Writes K.Sink out.old out.new
-            (flat_map label_line (label_lines self.now.found.graph.now (known_of self.now) self.now.view.facts point)) }
+            (flat_map label_line (label_lines self.now.found.graph.now (known_of self.now) self.now.view point)) }
     {
+        self.write_label_lines(out, point, self.labels(point));
         self.write_title(out, point);
         out.write(b"\\l");
         self.write_remarks_at(&DotLine, out, point);
@@ -254,15 +318,6 @@ impl ViewProgram<'_> {
         }
     }
 
-    // Whether a point is doubtful.
-    fn is_doubtful(&self, point: u32) -> bool
-        requires shown { AreShown self.now }
-        requires point { point < point_count self.now.found.graph.now }
-        ensures { result ≡ (known_of self.now).doubtful point }
-    {
-        self.found.doubtful[point as usize]
-    }
-
     // Writes the marks of a point.
     fn write_marks<K: Sink>(&self, out: &mut Pieces<'_, K>, point: u32)
         requires ready { CanWrite K.Sink out.old }
@@ -281,7 +336,7 @@ impl ViewProgram<'_> {
         requires form { self.now.names.form ≡ Escaped }
         requires procedure { procedure < length self.now.found.graph.now.procedures }
         requires shows { IsShownProcedure self.now.view.procedure procedure }
-        ensures { Writes K.Sink out.old out.new (cluster self.now.found.graph.now (known_of self.now) self.now.view.facts procedure) }
+        ensures { Writes K.Sink out.old out.new (cluster self.now.found.graph.now (known_of self.now) self.now.view procedure) }
     {
         out.write(b"  subgraph \"cluster_");
         write_number(out, procedure);
@@ -302,15 +357,99 @@ impl ViewProgram<'_> {
         requires procedures { procedures.end ≤ length self.now.found.graph.now.procedures }
         requires shows { AreShownProcedures self.now.view.procedure procedures }
         ensures { Writes K.Sink out.old out.new
-            (flat_map (cluster self.now.found.graph.now (known_of self.now) self.now.view.facts) (numbers_of procedures)) }
+            (flat_map (cluster self.now.found.graph.now (known_of self.now) self.now.view) (numbers_of procedures)) }
     {
         for procedure in procedures.first..procedures.end {
             self.write_cluster(out, procedure);
         }
     }
 
+    // The number of the procedure `main`.
+    fn main_procedure(&self) -> u32
+        requires { AreShown self.now }
+        ensures number { result ≡ main_procedure self.now.found.graph.now }
+        ensures there { result < length self.now.found.graph.now.procedures }
+    {
+        let names = self.found.graph.program().procedure_names();
+        names.find(b"main").unwrap_or(0)
+    }
+
+    // How many procedures there are.
+    fn procedure_count(&self) -> u32
+        requires { AreShown self.now }
+        ensures { result ≡ length self.now.found.graph.now.procedures }
+    {
+        self.found.graph.program().procs().len() as u32
+    }
+
+    // Writes the clusters of all procedures, that of `main` first.
+    fn write_all_clusters<K: Sink>(&self, out: &mut Pieces<'_, K>)
+        requires ready { CanWrite K.Sink out.old }
+        requires shown { AreShown self.now }
+        requires form { self.now.names.form ≡ Escaped }
+        requires all { self.now.view.procedure ≡ None }
+        ensures { Writes K.Sink out.old out.new (all_clusters self.now.found.graph.now (known_of self.now) self.now.view) }
+    {
+        let main = self.main_procedure();
+        let end = self.procedure_count();
+        self.write_cluster(out, main);
+        self.write_clusters(
+            out,
+            Numbers {
+                first: 0,
+                end: main,
+            },
+        );
+        self.write_clusters(
+            out,
+            Numbers {
+                first: main + 1,
+                end,
+            },
+        );
+    }
+
+    // Writes the clusters that are shown.
+    fn write_shown_clusters<K: Sink>(&self, out: &mut Pieces<'_, K>)
+        requires ready { CanWrite K.Sink out.old }
+        requires shown { AreShown self.now }
+        requires form { self.now.names.form ≡ Escaped }
+        ensures { Writes K.Sink out.old out.new (shown_clusters self.now.found.graph.now (known_of self.now) self.now.view self.now.view.procedure) }
+    {
+        match self.view.procedure {
+            Some(procedure) => self.write_cluster(out, procedure),
+            None => self.write_all_clusters(out),
+        }
+    }
+
+    // Writes the outcome by which a step is taken.
+    fn write_outcome<K: Sink>(&self, out: &mut Pieces<'_, K>, source: u32, target: u32)
+        requires ready { CanWrite K.Sink out.old }
+        requires shown { AreShown self.now }
+        requires source { source < point_count self.now.found.graph.now }
+        ensures { Writes K.Sink out.old out.new (outcome_mark (outcome self.now.found.graph.now source target)) }
+    {
+        match self.outcome(source, target) {
+            Some(holds) => write_outcome_label(out, holds),
+            None => {},
+        }
+    }
+
+    // Writes a step.
+    fn write_step<K: Sink>(&self, out: &mut Pieces<'_, K>, source: u32, target: u32)
+        requires ready { CanWrite K.Sink out.old }
+        requires shown { AreShown self.now }
+        requires source { source < point_count self.now.found.graph.now }
+        ensures { Writes K.Sink out.old out.new
+            (arrow source target ++ outcome_mark (outcome self.now.found.graph.now source target) ++ codes ";\n") }
+    {
+        write_arrow(out, source, target);
+        self.write_outcome(out, source, target);
+        out.write(b";\n");
+    }
+
     // Writes the edge of a call or a return, with the line of the call.
-    fn write_dashed<K: Sink>(
+    fn write_across<K: Sink>(
         &self,
         out: &mut Pieces<'_, K>,
         source: u32,
@@ -320,11 +459,11 @@ impl ViewProgram<'_> {
     )
         requires ready { CanWrite K.Sink out.old }
         requires site { site < point_count self.now.found.graph.now }
-        ensures { Writes K.Sink out.old out.new (arrow source target
-            ++ codes " [style=dashed, label=\"" ++ word.now ++ decimal (line_at self.now.found.graph.now site) ++ codes "\"];\n") }
+        ensures { Writes K.Sink out.old out.new (arrow source target ++ across ++ word.now
+            ++ decimal (line_at self.now.found.graph.now site) ++ codes "\"];\n") }
     {
         write_arrow(out, source, target);
-        out.write(b" [style=dashed, label=\"");
+        out.write(ACROSS);
         out.write(word);
         write_number(out, line(self.found.graph, site));
         out.write(b"\"];\n");
@@ -333,16 +472,14 @@ impl ViewProgram<'_> {
     // Writes an edge.
     fn write_edge<K: Sink>(&self, out: &mut Pieces<'_, K>, edge: Edge)
         requires ready { CanWrite K.Sink out.old }
-        requires edge { IsSiteIn self.now.found.graph.now edge }
+        requires shown { AreShown self.now }
+        requires edge { IsEndIn self.now.found.graph.now edge }
         ensures { Writes K.Sink out.old out.new (edge_line self.now.found.graph.now edge) }
     {
         match edge {
-            Edge::Step { from, to } => {
-                write_arrow(out, from, to);
-                out.write(b";\n");
-            }
-            Edge::Call { site, from, to } => self.write_dashed(out, from, to, b"call ", site),
-            Edge::Ret { site, from, to } => self.write_dashed(out, from, to, b"return ", site),
+            Edge::Step { from, to } => self.write_step(out, from, to),
+            Edge::Call { site, from, to } => self.write_across(out, from, to, b"call ", site),
+            Edge::Ret { site, from, to } => self.write_across(out, from, to, b"return ", site),
         }
     }
 
@@ -355,7 +492,7 @@ impl ViewProgram<'_> {
             return true;
         };
         let points = self.points_of(procedure);
-        let target = target(edge);
+        let target = target_of(edge);
         points.first <= target && target < points.end
     }
 
@@ -363,7 +500,7 @@ impl ViewProgram<'_> {
     fn write_shown_edge<K: Sink>(&self, out: &mut Pieces<'_, K>, edge: Edge)
         requires ready { CanWrite K.Sink out.old }
         requires shown { AreShown self.now }
-        requires edge { IsSiteIn self.now.found.graph.now edge }
+        requires edge { IsEndIn self.now.found.graph.now edge }
         ensures { Writes K.Sink out.old out.new (shown_edge self.now.found.graph.now self.now.view edge) }
     {
         if !self.shows_edge(edge) {
@@ -376,7 +513,7 @@ impl ViewProgram<'_> {
     fn write_shown_edges<K: Sink>(&self, out: &mut Pieces<'_, K>, edges: &[Edge])
         requires ready { CanWrite K.Sink out.old }
         requires shown { AreShown self.now }
-        requires edges { All (IsSiteIn self.now.found.graph.now) edges.now }
+        requires edges { All (IsEndIn self.now.found.graph.now) edges.now }
         ensures { Writes K.Sink out.old out.new (flat_map (shown_edge self.now.found.graph.now self.now.view) edges.now) }
     {
         for edge in edges {
@@ -384,32 +521,18 @@ impl ViewProgram<'_> {
         }
     }
 
-    // Whether the statement at a point is a call.
-    fn calls_at(&self, point: u32) -> bool
-        requires { point < point_count self.now.found.graph.now }
-        ensures { result ≡ calls_at self.now.found.graph.now point }
-    {
-        match self.found.graph.stmt(point) {
-            Some(stmt) => is_call(&stmt.kind),
-            None => false,
-        }
-    }
-
-    // Writes the edge to the point behind a call, where one procedure is shown.
+    // Joins a call to the point behind it.
     fn write_passed_call<K: Sink>(&self, out: &mut Pieces<'_, K>, point: u32)
         requires ready { CanWrite K.Sink out.old }
         requires shown { AreShown self.now }
         requires point { point < point_count self.now.found.graph.now }
-        ensures { Writes K.Sink out.old out.new (passed_call self.now.found.graph.now self.now.view point) }
+        ensures { Writes K.Sink out.old out.new (passed_call self.now.found.graph.now point) }
     {
-        let Some(_) = self.view.procedure else {
-            return;
-        };
-        if !self.calls_at(point) {
+        if !calls_at(self.found.graph, point) {
             return;
         }
         write_arrow(out, point, point + 1);
-        out.write(b" [style=dashed, label=\"call\"];\n");
+        out.write(b" [style=dotted, arrowhead=none];\n");
     }
 
     /// Writes the picture, but for the line that ends it.
@@ -422,7 +545,7 @@ impl ViewProgram<'_> {
         ensures { Writes K.Sink out.old out.new (open_dot self.now.found.graph.now (known_of self.now) self.now.view) }
     {
         write_head(out);
-        self.write_clusters(out, self.procedures());
+        self.write_shown_clusters(out);
         self.write_all_points(&DotEdges, out);
     }
 }
@@ -434,7 +557,7 @@ struct DotNodes;
 impl PointForm for DotNodes {
     ghost name_form = { λ _. Escaped };
 
-    ghost text = { λ _ shown point. node shown.found.graph.now (known_of shown) shown.view.facts point };
+    ghost text = { λ _ shown point. node shown.found.graph.now (known_of shown) shown.view point };
 
     fn write_point<K: Sink>(&self, out: &mut Pieces<'_, K>, shown: &ViewProgram<'_>, point: u32) {
         if out.has_failed() {
@@ -469,17 +592,20 @@ impl PointForm for DotEdges {
 }
 
 /// The flow graph of a program with its facts, as a picture for Graphviz: each procedure is a cluster `cluster_NUMBER` with its
-/// name, each point a node, named by its number. Its label has a line each for
+/// name, that of `main` first, each point a node, named by its number. Its label has a line each for
 ///
+/// - each of its labels, `LABEL:`;
 /// - the statement, `LINE: STATEMENT` as a listing writes it, or `end of NAME` at a procedure's end;
 /// - each remark that a report makes on it, in the report's words and order;
-/// - each chosen analysis, `reach: SET`, `live: SET`, `avail: SET`, `busy: SET`, with the set as `TableText` has it.
+/// - each chosen analysis, `reach: SET`, `live: SET`, `avail: SET`, `busy: SET`, with the set as `TableText` has it, or without the dummy
+///   definitions; and where that is asked for, the set behind a statement that is no call, `reach behind: SET`.
 ///
 /// A point is grey where no valid path leads there. Else it is red where its statement reads a variable that may be unset, and
 /// yellow where it is an assignment that is dead. A doubtful point has a second border, whatever else it is.
 ///
-/// A step is a solid edge. A call and a return are dashed, with the line of the call. Where one procedure is shown, these are the
-/// edges that stay in it, and from each call a dashed edge leads to the point behind it.
+/// A step is a solid edge, with T or F where a test comes out so. A call and a return are dashed and grey, with the line of the call; they
+/// do not rank their nodes. A dotted line without a head joins each call to the point behind it, and does. Where one procedure is shown, these
+/// are the edges that stay in it.
 ///
 /// The work is linear in the program, its edges, the text, and the words of the chosen analyses' sets and of the tests' sets of
 /// very busy expressions.

@@ -1,7 +1,7 @@
 // The text of lines of JSON.
 
 ghost use Rattle.flow_team.specs.Tables.{facts_of};
-ghost use Rattle.std.specs.Prelude.{◌≡◌, ◌+◌, ◌++◌, ◌<◌, ◌≤◌, Some, codes, decimal, filter, flat_map, length, map, IfOk, IfSome};
+ghost use Rattle.std.specs.Prelude.{◌≡◌, ◌+◌, ◌++◌, ◌<◌, ◌≤◌, All, Some, codes, decimal, filter, flat_map, length, map, IfOk, IfSome};
 ghost use Rattle.std.specs.List.{range_with_len};
 ghost use Rattle.flow_graph.specs.Points.{place_of, point_count, procedure_at, statement_at};
 ghost use Rattle.flow_reports.specs.code.Findings.{AreFindings, IsRemarkIn};
@@ -10,20 +10,20 @@ ghost use Rattle.text_pieces.specs.Pieces.{CanWrite, Writes};
 ghost use Rattle.flow_reports.specs.code.Reported.{TellReport};
 ghost use Rattle.tac_listing.specs.Listings.{statement_text};
 ghost use Rattle.flow_views.specs.ViewTables.{AreViewTables};
-ghost use Rattle.flow_views.specs.code.ViewProgram.{AreShown, IsShownPoint, TellSame, known_of};
+ghost use Rattle.flow_views.specs.code.ViewProgram.{AreShown, IsEndIn, IsShownPoint, TellSame, known_of};
 ghost use Rattle.flow_views.specs.declared.names.NameForm.TheVariants.{Quoted};
-ghost use Rattle.flow_views.specs.Json.{IsJson, array, boolean, edge_object, facts_field, json_with, point_line, program_line, remark_fields};
-ghost use Rattle.flow_views.specs.Json.{remark_head, remark_object, span_fields, statement_field};
+ghost use Rattle.flow_views.specs.Json.{IsJson, array, boolean, end_line, facts_field, json_with, point_edge, point_line, point_parts, program_line};
+ghost use Rattle.flow_views.specs.Json.{remark_fields, remark_head, remark_object, span_fields, statement_field, when_field};
 ghost use Rattle.flow_reports.specs.Reports.{remarks_at};
 ghost use Rattle.text_pieces.specs.Strings.{quoted};
-ghost use Rattle.flow_views.specs.Views.{analysis_if, chosen_analyses, names_at, procedure_name, known_facts, is_chosen};
+ghost use Rattle.flow_views.specs.Views.{analysis_if, chosen_analyses, label_name, names_at, outcome, procedure_name, known_facts, is_chosen};
 
 use crate::OutOfMemory;
 use crate::names::NameForm;
 use crate::point_form::PointForm;
 use crate::view::{View, analysis_name};
 use crate::view_program::ViewProgram;
-use crate::view_tables::ViewTables;
+use crate::view_tables::{ViewTables, shown_points};
 use flow_graph::{Analysis, Edge, Graph};
 use flow_reports::{Findings, Remark, RemarkForm, ReportAnswers};
 use flow_team::Table;
@@ -31,7 +31,7 @@ use flow_texts::{write_members, write_number};
 use itoa::Buffer;
 use std::alloc::Global;
 use std::marker::Model;
-use tac_program::{Span, Stmt};
+use tac_program::{Label, Span, Stmt};
 use text_pieces::{Pieces, Sink, Text, TextBlock, write_if, write_quoted};
 
 // Writes a kind with the field of what is named, and the name.
@@ -179,39 +179,18 @@ fn write_site<K: Sink>(out: &mut Pieces<'_, K>, kind: &[u8], site: u32, target: 
     out.write(b"}");
 }
 
-// Writes a step.
-fn write_step<K: Sink>(out: &mut Pieces<'_, K>, target: u32)
+// Writes the outcome by which a step is taken.
+fn write_when<K: Sink>(out: &mut Pieces<'_, K>, when: Option<bool>)
     requires { CanWrite K.Sink out.old }
-    ensures { Writes K.Sink out.old out.new (codes "{\"kind\":\"step\",\"to\":" ++ decimal target ++ codes "}") }
+    ensures { Writes K.Sink out.old out.new (when_field when) }
 {
-    out.write(b"{\"kind\":\"step\",\"to\":");
-    write_number(out, target);
-    out.write(b"}");
-}
-
-// Writes an edge.
-fn write_edge<K: Sink>(out: &mut Pieces<'_, K>, edge: Edge)
-    requires { CanWrite K.Sink out.old }
-    ensures { Writes K.Sink out.old out.new (edge_object edge) }
-{
-    match edge {
-        Edge::Step { to, .. } => write_step(out, to),
-        Edge::Call { site, to, .. } => write_site(out, b"{\"kind\":\"call\",\"site\":", site, to),
-        Edge::Ret { site, to, .. } => write_site(out, b"{\"kind\":\"return\",\"site\":", site, to),
+    match when {
+        Some(holds) => {
+            out.write(b",\"when\":");
+            write_boolean(out, holds);
+        },
+        None => {},
     }
-}
-
-// Writes edges as an array.
-fn write_edges<K: Sink>(out: &mut Pieces<'_, K>, edges: &[Edge])
-    requires { CanWrite K.Sink out.old }
-    ensures { Writes K.Sink out.old out.new (array (map edge_object edges.now)) }
-{
-    out.write(b"[");
-    for (place, edge) in edges.iter().enumerate() {
-        write_if(out, 0 < place, b",");
-        write_edge(out, *edge);
-    }
-    out.write(b"]");
 }
 
 impl ViewProgram<'_> {
@@ -251,7 +230,7 @@ impl ViewProgram<'_> {
         ensures { Writes K.Sink out.old out.new (program_line self.now.found.graph.now) }
     {
         let graph = self.found.graph;
-        out.write(b"{\"type\":\"program\",\"points\":");
+        out.write(b"{\"type\":\"program\",\"version\":1,\"points\":");
         write_number(out, graph.points());
         out.write(b",\"procedures\":");
         self.write_procedures(out);
@@ -288,6 +267,73 @@ impl ViewProgram<'_> {
             Some(stmt) => self.write_statement_field(out, point, stmt),
             None => out.write(b"null"),
         }
+    }
+
+    // Writes the names of labels of a point as an array.
+    fn write_labels<K: Sink>(&self, out: &mut Pieces<'_, K>, point: u32, labels: &[Label])
+        requires ready { CanWrite K.Sink out.old }
+        requires point { point < point_count self.now.found.graph.now }
+        ensures { Writes K.Sink out.old out.new (array (map (λ label. quoted (label_name self.now.found.graph.now point label)) labels.now)) }
+    {
+        out.write(b"[");
+        for (place, label) in labels.iter().enumerate() {
+            write_if(out, 0 < place, b",");
+            write_quoted(out, self.label_name(point, *label));
+        }
+        out.write(b"]");
+    }
+
+    // Writes a step.
+    fn write_step_object<K: Sink>(&self, out: &mut Pieces<'_, K>, source: u32, target: u32)
+        requires ready { CanWrite K.Sink out.old }
+        requires shown { AreShown self.now }
+        requires source { source < point_count self.now.found.graph.now }
+        ensures { Writes K.Sink out.old out.new (codes "{\"kind\":\"step\",\"to\":" ++ decimal target
+            ++ when_field (outcome self.now.found.graph.now source target) ++ codes "}") }
+    {
+        out.write(b"{\"kind\":\"step\",\"to\":");
+        write_number(out, target);
+        write_when(out, self.outcome(source, target));
+        out.write(b"}");
+    }
+
+    // Writes an edge.
+    fn write_edge_object<K: Sink>(&self, out: &mut Pieces<'_, K>, edge: Edge)
+        requires ready { CanWrite K.Sink out.old }
+        requires shown { AreShown self.now }
+        requires edge { IsEndIn self.now.found.graph.now edge }
+        ensures { Writes K.Sink out.old out.new (point_edge self.now.found.graph.now edge) }
+    {
+        match edge {
+            Edge::Step { from, to } => self.write_step_object(out, from, to),
+            Edge::Call { site, to, .. } => write_site(
+                out,
+                b"{\"kind\":\"call\",\"site\":",
+                site,
+                to,
+            ),
+            Edge::Ret { site, to, .. } => write_site(
+                out,
+                b"{\"kind\":\"return\",\"site\":",
+                site,
+                to,
+            ),
+        }
+    }
+
+    // Writes edges as an array.
+    fn write_edge_objects<K: Sink>(&self, out: &mut Pieces<'_, K>, edges: &[Edge])
+        requires ready { CanWrite K.Sink out.old }
+        requires shown { AreShown self.now }
+        requires edges { All (IsEndIn self.now.found.graph.now) edges.now }
+        ensures { Writes K.Sink out.old out.new (array (map (point_edge self.now.found.graph.now) edges.now)) }
+    {
+        out.write(b"[");
+        for (place, edge) in edges.iter().enumerate() {
+            write_if(out, 0 < place, b",");
+            self.write_edge_object(out, *edge);
+        }
+        out.write(b"]");
     }
 
     // Writes what an analysis tells at a point.
@@ -369,7 +415,38 @@ impl ViewProgram<'_> {
         write_number(out, place.place);
     }
 
-    /// Writes the lines of JSON, the remarks in a form of their own.
+    // Writes the labels of a point, its statement, whether it is doubtful, and its edges.
+    fn write_point_parts<K: Sink>(&self, out: &mut Pieces<'_, K>, point: u32)
+        requires ready { CanWrite K.Sink out.old }
+        requires shown { AreShown self.now }
+        requires point { point < point_count self.now.found.graph.now }
+        ensures { Writes K.Sink out.old out.new (point_parts self.now.found.graph.now (known_of self.now) point) }
+    {
+        out.write(b",\"labels\":");
+        self.write_labels(out, point, self.labels(point));
+        out.write(b",\"statement\":");
+        self.write_statement_or_null(out, point);
+        out.write(b",\"doubtful\":");
+        write_boolean(out, self.is_doubtful(point));
+        out.write(b",\"edges\":");
+        self.write_edge_objects(out, self.edges(point));
+    }
+
+    /// Writes the last line.
+    ///
+    /// The condition: it is one program that is shown.
+    pub fn write_end<K: Sink>(&self, out: &mut Pieces<'_, K>)
+        requires ready { CanWrite K.Sink out.old }
+        requires shown { AreShown self.now }
+        ensures { Writes K.Sink out.old out.new (end_line self.now.found.graph.now self.now.view) }
+    {
+        let points = shown_points(self.found.graph, self.view.procedure);
+        out.write(b"{\"type\":\"end\",\"points\":");
+        write_number(out, points.end - points.first);
+        out.write(b"}\n");
+    }
+
+    /// Writes the lines of JSON but for the last, the remarks in a form of their own.
     ///
     /// The conditions: it is one program that is shown, and the names of its bits are quoted.
     pub fn write_json<F: RemarkForm, K: Sink>(&self, form: &F, out: &mut Pieces<'_, K>)
@@ -399,10 +476,7 @@ impl PointForm for JsonPoints {
         }
         shown.write_point_place(out, point);
         write_place(out, shown.found.graph, point);
-        out.write(b",\"statement\":");
-        shown.write_statement_or_null(out, point);
-        out.write(b",\"edges\":");
-        write_edges(out, shown.edges(point));
+        shown.write_point_parts(out, point);
         shown.write_facts_fields(out, point);
         out.write(b"}\n");
     }
@@ -426,18 +500,23 @@ impl<F: RemarkForm> PointForm for JsonRemarks<'_, F> {
 }
 
 /// The flow graph of a program with its facts, for tools: one object of JSON a line, in a fixed layout. First the
-/// program, then each point in order, then each remark of the report in its order:
+/// program, then each point in order, then each remark of the report in its order, and last a line that ends it:
 ///
-///     {"type":"program","points":2,"procedures":["main"],"variables":["x","y"],"definitions":3,"expressions":1}
-///     {"type":"point","point":0,"procedure":"main","place":0,"line":2,"first":11,"last":19,"statement":"x = x + y","edges":[{"kind":"step","to":1}]}
+///     {"type":"program","version":1,"points":2,"procedures":["main"],"variables":["x","y"],"definitions":3,"expressions":1}
+///     {"type":"point","point":0,"procedure":"main","place":0,"line":2,"first":11,"last":19,"labels":[],"statement":"x = x + y",
+///      "doubtful":false,"edges":[{"kind":"step","to":1}]}
 ///     {"type":"remark","point":0,"line":2,"first":11,"last":19,"kind":"dead","variable":"x"}
+///     {"type":"end","points":2}
 ///
 /// - `line`, `first` and `last` are the statement's line and the places of its first and its last byte in the whole text, each from
-///   1; labels do not count. At a procedure's end they and `statement` are null.
-/// - An edge is a `step`, a `call` or a `return`; the latter two have the point of the call, `site`. `to` is the point where it leads.
+///   1; labels do not count. At a procedure's end they and `statement` are null. `labels` are the names of the labels that stand for the point.
+/// - `doubtful` is true where what follows may never end.
+/// - An edge is a `step`, a `call` or a `return`; the latter two have the point of the call, `site`. `to` is the point where it leads. Each of
+///   the two steps of a test says how it comes out then, `when`.
 /// - Behind the edges stand `reach`, `live`, `avail` and `busy` as they are chosen, each
 ///   `{"path":BOOLEAN,"bits":[NUMBER..],"names":[STRING..]}`: whether some valid path is there, and the set by number and by name.
 /// - The kinds of remarks are `never_reached`, `unset` and `dead` with a `variable`, `computed` and `busy` with an `expression`.
+/// - The last line says how many points were told.
 ///
 /// Procedures, variables and bits stand in the order of their numbers. Where one procedure is shown, the lines of the other points
 /// and remarks are left out, and nothing else.
@@ -489,5 +568,6 @@ impl<'a> Text for JsonText<'a> {
 
     fn write<K: Sink>(&self, out: &mut Pieces<'_, K>) {
         self.shown.write_json(&JsonLine, out);
+        self.shown.write_end(out);
     }
 }

@@ -3,6 +3,7 @@
 
 mod dots;
 mod json;
+mod labels;
 mod names;
 mod point_form;
 mod view;
@@ -13,6 +14,6 @@ pub use dots::DotText;
 pub use json::{JsonText, write_remark_head};
 pub use names::NameForm;
 pub use std::alloc::AllocError as OutOfMemory;
-pub use view::{Chosen, View, analysis_name};
+pub use view::{Chosen, Look, View, analysis_name};
 pub use view_program::ViewProgram;
 pub use view_tables::ViewTables;

@@ -22,7 +22,6 @@ pub enum NameForm {
 }
 
 /// What the bits are called, in one form.
-#[derive(Drop)]
 pub(crate) struct Names {
     /// The form.
     pub(crate) form: NameForm,
@@ -34,6 +33,19 @@ pub(crate) struct Names {
     pub(crate) expressions: TextBlock,
     /// The numbers of all bits, where the form has them.
     pub(crate) numbers: TextBlock,
+}
+
+impl Drop for Names {
+    // By hand: who gives it up then makes one call.
+    fn drop(self) {
+        let Names {
+            form: _,
+            definitions: _,
+            variables: _,
+            expressions: _,
+            numbers: _,
+        } = self;
+    }
 }
 
 // What stands between two names.

@@ -42,11 +42,22 @@ impl Chosen {
     }
 }
 
-/// What is shown of a program.
+/// How a picture shows facts. Lines of JSON are the same for all of these.
+#[derive(Debug, Clone, Copy, PartialEq, Eq)]
+pub struct Look {
+    /// Whether the dummy definitions are left out of its sets.
+    pub hides_entry: bool,
+    /// Whether facts stand behind a statement as well as before it.
+    pub behind: bool,
+}
+
+/// What is shown of a program, and how.
 #[derive(Debug, Clone, Copy, PartialEq, Eq)]
 pub struct View {
     /// The facts at each point.
     pub facts: Chosen,
     /// The number of the one procedure that is shown; all where there is none.
     pub procedure: Option<u32>,
+    /// How a picture shows them.
+    pub look: Look,
 }

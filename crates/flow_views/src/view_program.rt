@@ -14,13 +14,15 @@ ghost use Rattle.flow_reports.specs.code.Reported.{TellReport};
 ghost use Rattle.text_pieces.specs.code.Lists.{some_stand};
 ghost use Rattle.tac_listing.specs.Listings.{statement_text};
 ghost use Rattle.flow_views.specs.code.Names.{AreNamesOf};
-ghost use Rattle.flow_views.specs.code.ViewProgram.{AreShown, AreShownProcedures, IsShownPoint, IsShownProcedure, TellSame, contents};
+ghost use Rattle.flow_views.specs.code.ViewProgram.{AreShown, AreShownProcedures, IsShownPoint, IsShownProcedure, IsShownTable, TellSame};
+ghost use Rattle.flow_views.specs.code.ViewProgram.{contents};
 ghost use Rattle.flow_views.specs.code.ViewProgram.{known_of, numbers_of};
 ghost use Rattle.text_pieces.specs.Strings.{escaped};
 ghost use Rattle.flow_views.specs.Views.{names_at, points_in, procedure_name as name_of_procedure, shown_points, is_chosen};
-ghost use Rattle.flow_views.specs.Views.{shown_procedures, known_facts};
+ghost use Rattle.flow_views.specs.Views.{shown_procedures, known_facts, label_name, labels_at, outcome, outcome_of};
 
 use crate::OutOfMemory;
+use crate::labels::labels_of_place;
 use crate::names::{NameForm, Names};
 use crate::point_form::PointForm;
 use crate::view::View;
@@ -31,7 +33,7 @@ use flow_team::Table;
 use smallvec::SmallVec;
 use std::alloc::Global;
 use tac_listing::Scope;
-use tac_program::{Stmt, StmtKind};
+use tac_program::{Label, Stmt, StmtKind};
 use text_pieces::{Pieces, Sink, TextBlock};
 
 /// Numbers from the first on and before the end.
@@ -91,6 +93,26 @@ fn successors(
     Ok(lists)
 }
 
+// What a test says where its jump is taken, or where it is not.
+fn outcome_of(kind: &StmtKind, jumps: bool) -> Option<bool>
+    ensures { result ≡ outcome_of kind.now jumps }
+{
+    match kind {
+        StmtKind::Copy { .. } => None,
+        StmtKind::Unary { .. } => None,
+        StmtKind::Binary { .. } => None,
+        StmtKind::Goto { .. } => None,
+        StmtKind::If { .. } => Some(jumps),
+        StmtKind::IfFalse { .. } => Some(!jumps),
+        StmtKind::IfCompare { .. } => Some(jumps),
+        StmtKind::Call { .. } => None,
+        StmtKind::Return => None,
+        StmtKind::Read { .. } => None,
+        StmtKind::Print { .. } => None,
+        StmtKind::Skip => None,
+    }
+}
+
 impl<'a> ViewProgram<'a> {
     /// What is shown of a graph with its tables, and the names of bits in this form.
     ///
@@ -148,6 +170,8 @@ impl ViewProgram<'_> {
             (λ table. length table.now.paths ≡ end_shown self.now.found.graph.now self.now.view.procedure) }
         ensures facts { IfSome result (λ table. (point : ℕ) → IsShownPoint self.now point
             → TellSame (facts_of table.now) (known_facts (known_of self.now) analysis) point) }
+        ensures analysis { IfSome result (λ table. table.now.analysis ≡ analysis) }
+        ensures shown { IfSome result (λ table. IsShownTable self.now table.now) }
     {
         self.tables.table(analysis)
     }
@@ -209,6 +233,52 @@ impl ViewProgram<'_> {
         ensures { result.now ≡ edges_from self.now.found.graph.now point }
     {
         self.successors[point as usize].as_slice()
+    }
+
+    /// The outcome of a test by which control goes from a point to another.
+    pub(crate) fn outcome(&self, source: u32, target: u32) -> Option<bool>
+        requires shown { AreShown self.now }
+        requires source { source < point_count self.now.found.graph.now }
+        ensures { result ≡ outcome self.now.found.graph.now source target }
+    {
+        if self.edges(source).len() != 2 {
+            return None;
+        }
+        match self.found.graph.stmt(source) {
+            Some(stmt) => outcome_of(&stmt.kind, target != source + 1),
+            None => None,
+        }
+    }
+
+    /// The labels of a point.
+    pub(crate) fn labels(&self, point: u32) -> &[Label]
+        requires { point < point_count self.now.found.graph.now }
+        ensures { result.now ≡ labels_at self.now.found.graph.now point }
+    {
+        let place = self.found.graph.place(point);
+        let procs = self.found.graph.program().procs();
+        labels_of_place(procs[place.procedure as usize].labels(), place.place)
+    }
+
+    /// The name of a label of a point.
+    pub(crate) fn label_name(&self, point: u32, label: Label) -> &[u8]
+        requires { point < point_count self.now.found.graph.now }
+        ensures { result.now ≡ label_name self.now.found.graph.now point label }
+    {
+        let place = self.found.graph.place(point);
+        let procs = self.found.graph.program().procs();
+        procs[place.procedure as usize]
+            .label_names()
+            .name_or_empty(label.name)
+    }
+
+    /// Whether a point is doubtful.
+    pub(crate) fn is_doubtful(&self, point: u32) -> bool
+        requires shown { AreShown self.now }
+        requires point { point < point_count self.now.found.graph.now }
+        ensures { result ≡ (known_of self.now).doubtful point }
+    {
+        self.found.doubtful[point as usize]
     }
 
     /// The procedures that are shown.

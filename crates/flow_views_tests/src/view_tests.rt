@@ -3,7 +3,7 @@
 use flow_graph::Graph;
 use flow_reports::ReportAnswers;
 use flow_team::{OpenGate, Team};
-use flow_views::{Chosen, DotText, JsonText, View, ViewTables};
+use flow_views::{Chosen, DotText, JsonText, Look, View, ViewTables};
 use std::alloc::Global;
 use std::process::Abort;
 use std::test::Fail;
@@ -43,6 +43,7 @@ fn write_graph<R: Threads + Sync>(
             Some(procedure) if (procedure as usize) < count => Some(procedure),
             _ => None,
         },
+        look: view.look,
     };
     let tables = ViewTables::of(&team, alloc, graph, view)?;
     let mut sink = ToWrite::new(page);
@@ -87,6 +88,11 @@ fn text_of<R: Threads + Sync + AllocGlobal>(
     }
 }
 
+const PLAIN: Look = Look {
+    hides_entry: false,
+    behind: false,
+};
+
 const NO_FACTS: View = View {
     facts: Chosen {
         reach: false,
@@ -95,6 +101,7 @@ const NO_FACTS: View = View {
         busy: false,
     },
     procedure: None,
+    look: PLAIN,
 };
 
 // A picture of a program with each kind of remark.
@@ -109,13 +116,55 @@ fn picture_of_remarks(rt: HostRuntime) -> Result<(), Fail> {
         3 [label=\"6: y = a + b\\la + b is already computed\\l\"];\n    \
         4 [label=\"7: if x < y goto larger\\la * b is very busy\\l\"];\n    \
         5 [label=\"8: z = a * b\\l\"];\n    6 [label=\"9: goto shown\\l\"];\n    \
-        7 [label=\"11: z = a * b\\l\"];\n    \
+        7 [label=\"larger:\\l11: z = a * b\\l\"];\n    \
         8 [label=\"12: x = 0\\lassignment to x is dead\\l\", style=filled, fillcolor=khaki];\n    \
-        9 [label=\"14: print z\\l\"];\n    \
+        9 [label=\"shown:\\l14: print z\\l\"];\n    \
         10 [label=\"15: print count\\lcount may be used before it is set\\l\", color=red, fontcolor=red];\n    11 [label=\"16: return\\l\"];\n    \
         12 [label=\"17: print y\\lnever reached\\l\", style=filled, fillcolor=grey80];\n    \
-        13 [label=\"end of main\\l\"];\n  }\n  0 -> 1;\n  1 -> 2;\n  2 -> 3;\n  3 -> 4;\n  4 -> 5;\n  \
-        4 -> 7;\n  5 -> 6;\n  6 -> 9;\n  7 -> 8;\n  8 -> 9;\n  9 -> 10;\n  10 -> 11;\n  11 -> 13;\n  12 -> 13;\n}\n";
+        13 [label=\"end of main\\l\"];\n  }\n  0 -> 1;\n  1 -> 2;\n  2 -> 3;\n  3 -> 4;\n  4 -> 5 [label=\"F\"];\n  \
+        4 -> 7 [label=\"T\"];\n  5 -> 6;\n  6 -> 9;\n  7 -> 8;\n  8 -> 9;\n  9 -> 10;\n  10 -> 11;\n  11 -> 13;\n  12 -> 13;\n}\n";
+    assert_eq!(rt; got.as_slice(), wanted);
+    Ok(())
+}
+
+// All facts on both sides of each statement, without the values at the beginning. Of the two ways to line 8 one sets `x` anew.
+const BOTH_SIDES: &str =
+    "proc main\nread x\nread y\nif x < y goto M\nz = x + y\nx = z\nM:\nprint x\nend\n";
+
+#[test]
+fn picture_of_both_sides(rt: HostRuntime) -> Result<(), Fail> {
+    let view = View {
+        facts: Chosen {
+            reach: true,
+            live: true,
+            avail: true,
+            busy: true,
+        },
+        procedure: None,
+        look: Look {
+            hides_entry: true,
+            behind: true,
+        },
+    };
+    let got = text_of(&rt, BOTH_SIDES, Format::Dot, view)?;
+    let wanted: &[u8] = b"digraph \"tacflow\" {\n  graph [fontname=\"monospace\", labeljust=l];\n  \
+        node [shape=box, fontname=\"monospace\", fontsize=11];\n  \
+        edge [fontname=\"monospace\", fontsize=10];\n  subgraph \"cluster_0\" {\n    \
+        label=\"main\";\n    \
+        0 [label=\"2: read x\\lreach: -\\lreach behind: x@2\\llive: -\\llive behind: x\\l\
+        avail: -\\lavail behind: -\\lbusy: -\\lbusy behind: -\\l\"];\n    \
+        1 [label=\"3: read y\\lreach: x@2\\lreach behind: x@2, y@3\\llive: x\\llive behind: x, y\\l\
+        avail: -\\lavail behind: -\\lbusy: -\\lbusy behind: -\\l\"];\n    \
+        2 [label=\"4: if x < y goto M\\lreach: x@2, y@3\\lreach behind: x@2, y@3\\llive: x, y\\llive behind: x, y\\l\
+        avail: -\\lavail behind: -\\lbusy: -\\lbusy behind: -\\l\"];\n    \
+        3 [label=\"5: z = x + y\\lreach: x@2, y@3\\lreach behind: x@2, y@3, z@5\\llive: x, y\\llive behind: z\\l\
+        avail: -\\lavail behind: x + y\\lbusy: x + y\\lbusy behind: -\\l\"];\n    \
+        4 [label=\"6: x = z\\lreach: x@2, y@3, z@5\\lreach behind: y@3, z@5, x@6\\llive: z\\llive behind: x\\l\
+        avail: x + y\\lavail behind: -\\lbusy: -\\lbusy behind: -\\l\"];\n    \
+        5 [label=\"M:\\l8: print x\\lreach: x@2, y@3, z@5, x@6\\lreach behind: x@2, y@3, z@5, x@6\\llive: x\\llive behind: -\\l\
+        avail: -\\lavail behind: -\\lbusy: -\\lbusy behind: -\\l\"];\n    \
+        6 [label=\"end of main\\lreach: x@2, y@3, z@5, x@6\\llive: -\\lavail: -\\lbusy: -\\l\"];\n  }\n  \
+        0 -> 1;\n  1 -> 2;\n  2 -> 3 [label=\"F\"];\n  2 -> 5 [label=\"T\"];\n  3 -> 4;\n  4 -> 5;\n  5 -> 6;\n}\n";
     assert_eq!(rt; got.as_slice(), wanted);
     Ok(())
 }
@@ -125,14 +174,15 @@ fn picture_of_remarks(rt: HostRuntime) -> Result<(), Fail> {
 fn lines_of_remarks(rt: HostRuntime) -> Result<(), Fail> {
     let got = text_of(&rt, remarks::TEXT, Format::Json, NO_FACTS)?;
     let first: &[u8] =
-        b"{\"type\":\"program\",\"points\":14,\"procedures\":[\"main\"],\"variables\":[\"a\",\"b\",\"x\",\"y\",\"z\",\"count\"],\"definitions\":13,\
+        b"{\"type\":\"program\",\"version\":1,\"points\":14,\"procedures\":[\"main\"],\"variables\":[\"a\",\"b\",\"x\",\"y\",\"z\",\"count\"],\"definitions\":13,\
         \"expressions\":2}\n";
     let last: &[u8] =
         b"{\"type\":\"remark\",\"point\":3,\"line\":6,\"first\":92,\"last\":100,\"kind\":\"computed\",\"expression\":\"a + b\"}\n\
         {\"type\":\"remark\",\"point\":4,\"line\":7,\"first\":140,\"last\":159,\"kind\":\"busy\",\"expression\":\"a * b\"}\n\
         {\"type\":\"remark\",\"point\":8,\"line\":12,\"first\":244,\"last\":248,\"kind\":\"dead\",\"variable\":\"x\"}\n\
         {\"type\":\"remark\",\"point\":10,\"line\":15,\"first\":318,\"last\":328,\"kind\":\"unset\",\"variable\":\"count\"}\n\
-        {\"type\":\"remark\",\"point\":12,\"line\":17,\"first\":365,\"last\":371,\"kind\":\"never_reached\"}\n";
+        {\"type\":\"remark\",\"point\":12,\"line\":17,\"first\":365,\"last\":371,\"kind\":\"never_reached\"}\n\
+        {\"type\":\"end\",\"points\":14}\n";
     assert!(rt; got.starts_with(first));
     assert!(rt; got.ends_with(last));
     Ok(())
@@ -149,26 +199,28 @@ fn lines_of_recursion(rt: HostRuntime) -> Result<(), Fail> {
             busy: false,
         },
         procedure: Some(1),
+        look: PLAIN,
     };
     let got = text_of(&rt, factorial::TEXT, Format::Json, view)?;
     let wanted: &[u8] =
-        b"{\"type\":\"program\",\"points\":10,\"procedures\":[\"main\",\"factorial\"],\"variables\":[\"n\",\"result\"],\"definitions\":6,\
+        b"{\"type\":\"program\",\"version\":1,\"points\":10,\"procedures\":[\"main\",\"factorial\"],\"variables\":[\"n\",\"result\"],\"definitions\":6,\
         \"expressions\":2}\n\
-        {\"type\":\"point\",\"point\":5,\"procedure\":\"factorial\",\"place\":0,\"line\":10,\"first\":135,\"last\":153,\"statement\":\"if n <= 1 \
-        goto base\",\"edges\":[{\"kind\":\"step\",\"to\":6},{\"kind\":\"step\",\"to\":9}],\"reach\":{\"path\":true,\"bits\":[2,3,4,5],\
+        {\"type\":\"point\",\"point\":5,\"procedure\":\"factorial\",\"place\":0,\"line\":10,\"first\":135,\"last\":153,\"labels\":[],\"statement\":\"if n <= 1 \
+        goto base\",\"doubtful\":false,\"edges\":[{\"kind\":\"step\",\"to\":6,\"when\":false},{\"kind\":\"step\",\"to\":9,\"when\":true}],\"reach\":{\"path\":true,\"bits\":[2,3,4,5],\
         \"names\":[\"n@3\",\"result@4\",\"result@11\",\"n@12\"]},\"live\":{\"path\":true,\"bits\":[0,1],\"names\":[\"n\",\"result\"]}}\n\
-        {\"type\":\"point\",\"point\":6,\"procedure\":\"factorial\",\"place\":1,\"line\":11,\"first\":157,\"last\":175,\"statement\":\"result = \
-        result * n\",\"edges\":[{\"kind\":\"step\",\"to\":7}],\"reach\":{\"path\":true,\"bits\":[2,3,4,5],\"names\":[\"n@3\",\"result@4\",\
+        {\"type\":\"point\",\"point\":6,\"procedure\":\"factorial\",\"place\":1,\"line\":11,\"first\":157,\"last\":175,\"labels\":[],\"statement\":\"result = \
+        result * n\",\"doubtful\":false,\"edges\":[{\"kind\":\"step\",\"to\":7}],\"reach\":{\"path\":true,\"bits\":[2,3,4,5],\"names\":[\"n@3\",\"result@4\",\
         \"result@11\",\"n@12\"]},\"live\":{\"path\":true,\"bits\":[0,1],\"names\":[\"n\",\"result\"]}}\n\
-        {\"type\":\"point\",\"point\":7,\"procedure\":\"factorial\",\"place\":2,\"line\":12,\"first\":179,\"last\":187,\"statement\":\"n = n - 1\",\
-        \"edges\":[{\"kind\":\"step\",\"to\":8}],\"reach\":{\"path\":true,\"bits\":[2,4,5],\"names\":[\"n@3\",\"result@11\",\"n@12\"]},\
+        {\"type\":\"point\",\"point\":7,\"procedure\":\"factorial\",\"place\":2,\"line\":12,\"first\":179,\"last\":187,\"labels\":[],\"statement\":\"n = n - 1\",\
+        \"doubtful\":false,\"edges\":[{\"kind\":\"step\",\"to\":8}],\"reach\":{\"path\":true,\"bits\":[2,4,5],\"names\":[\"n@3\",\"result@11\",\"n@12\"]},\
         \"live\":{\"path\":true,\"bits\":[0,1],\"names\":[\"n\",\"result\"]}}\n\
-        {\"type\":\"point\",\"point\":8,\"procedure\":\"factorial\",\"place\":3,\"line\":13,\"first\":191,\"last\":204,\"statement\":\"call \
-        factorial\",\"edges\":[{\"kind\":\"call\",\"site\":8,\"to\":5}],\"reach\":{\"path\":true,\"bits\":[4,5],\"names\":[\"result@11\",\"n@12\"]},\
+        {\"type\":\"point\",\"point\":8,\"procedure\":\"factorial\",\"place\":3,\"line\":13,\"first\":191,\"last\":204,\"labels\":[],\"statement\":\"call \
+        factorial\",\"doubtful\":false,\"edges\":[{\"kind\":\"call\",\"site\":8,\"to\":5}],\"reach\":{\"path\":true,\"bits\":[4,5],\"names\":[\"result@11\",\"n@12\"]},\
         \"live\":{\"path\":true,\"bits\":[0,1],\"names\":[\"n\",\"result\"]}}\n\
-        {\"type\":\"point\",\"point\":9,\"procedure\":\"factorial\",\"place\":4,\"line\":null,\"first\":null,\"last\":null,\"statement\":null,\
-        \"edges\":[{\"kind\":\"return\",\"site\":2,\"to\":3},{\"kind\":\"return\",\"site\":8,\"to\":9}],\"reach\":{\"path\":true,\"bits\":[2,3,4,5],\
-        \"names\":[\"n@3\",\"result@4\",\"result@11\",\"n@12\"]},\"live\":{\"path\":true,\"bits\":[1],\"names\":[\"result\"]}}\n";
+        {\"type\":\"point\",\"point\":9,\"procedure\":\"factorial\",\"place\":4,\"line\":null,\"first\":null,\"last\":null,\"labels\":[\"base\"],\"statement\":null,\
+        \"doubtful\":false,\"edges\":[{\"kind\":\"return\",\"site\":2,\"to\":3},{\"kind\":\"return\",\"site\":8,\"to\":9}],\"reach\":{\"path\":true,\"bits\":[2,3,4,5],\
+        \"names\":[\"n@3\",\"result@4\",\"result@11\",\"n@12\"]},\"live\":{\"path\":true,\"bits\":[1],\"names\":[\"result\"]}}\n\
+        {\"type\":\"end\",\"points\":5}\n";
     assert_eq!(rt; got.as_slice(), wanted);
     Ok(())
 }

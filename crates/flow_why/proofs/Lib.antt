@@ -1,5 +1,5 @@
-mod found
-mod solutions
-mod trails
-mod unfoldings
-mod visits
+pub mod found
+pub mod solutions
+pub mod trails
+pub mod unfoldings
+pub mod visits

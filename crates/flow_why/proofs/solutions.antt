@@ -1,4 +1,5 @@
 pub mod Complete
 pub mod Frames
+pub mod Keeping
 pub mod Passing
 pub mod Sound

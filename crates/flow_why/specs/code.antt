@@ -4,6 +4,7 @@ pub mod Found
 pub mod Frames
 pub mod Marked
 pub mod Moves
+pub mod Scopes
 pub mod Trails
 pub mod Visits
 pub mod Ways

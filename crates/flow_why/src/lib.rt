@@ -1,28 +1,22 @@
-//! Why a bit is in the set of a point: a path that shows it, as a list of hops.
+//! Searches for ways that bring a bit to points, and paths as lists of hops. `flow_witnesses` answers by them why a bit is in a set.
 #![tactic(auto)]
 
-mod answers;
-mod claim;
+pub mod claim;
 pub mod examples;
-mod frame;
-mod hop;
+pub mod frame;
+pub mod hop;
 pub mod laws;
-mod mark;
-mod marks;
-mod point_bit;
-mod point_why;
-mod run;
-mod search;
-mod space;
-mod trail;
+pub mod mark;
+pub mod marks;
+pub mod point_bit;
+pub mod run;
+pub mod scope;
+pub mod search;
+pub mod trail;
 mod visit;
-mod ways;
-mod why;
+pub mod ways;
 
 pub use hop::{Effect, Hop};
 pub use point_bit::PointBit;
-pub use point_why::PointWhy;
-pub use space::Space;
 pub use std::alloc::AllocError as OutOfMemory;
 pub use ways::Ways;
-pub use why::Why;

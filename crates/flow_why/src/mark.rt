@@ -2,7 +2,7 @@ use crate::hop::Hop;
 
 /// Why a point is marked.
 #[derive(Debug, Clone, Copy, PartialEq, Eq)]
-pub(crate) enum Reason {
+pub enum Reason {
     /// A search begins there.
     Beginning,
     /// By a hop from a point that was marked before it in the same list.
@@ -13,7 +13,7 @@ pub(crate) enum Reason {
 
 /// A marked point.
 #[derive(Debug, Clone, Copy, PartialEq, Eq)]
-pub(crate) struct Mark {
+pub struct Mark {
     /// The point.
     pub point: u32,
     /// Why it is marked.

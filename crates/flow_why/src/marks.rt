@@ -8,7 +8,7 @@ use std::alloc::Global;
 use std::marker::Model;
 
 /// Points that are marked, each once at most, in the order in which that was done, and how many of them were taken up.
-pub(crate) struct Marks {
+pub struct Marks {
     found: Vec<Mark>,
     places: Vec<u32>,
     taken: usize,

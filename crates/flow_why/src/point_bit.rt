@@ -35,14 +35,14 @@ impl<'b> PointBit<'b> {
     }
 
     /// The points whose statements generate the bit.
-    pub(crate) fn gens(&self) -> &'b [u32]
+    pub fn gens(&self) -> &'b [u32]
         ensures { result.now ≡ self.now.gens }
     {
         self.gens
     }
 
     /// Whether the statement at a point kills the bit.
-    pub(crate) fn is_killed_at(&self, point: u32) -> bool
+    pub fn is_killed_at(&self, point: u32) -> bool
         ensures { result ≡ slice_index_or self.now.kills point false }
     {
         match self.kills.get(point as usize) {
@@ -52,7 +52,7 @@ impl<'b> PointBit<'b> {
     }
 
     /// Whether the boundary has the bit.
-    pub(crate) fn in_boundary(&self) -> bool
+    pub fn in_boundary(&self) -> bool
         ensures { result ≡ self.now.boundary }
     {
         self.boundary

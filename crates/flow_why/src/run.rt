@@ -226,11 +226,7 @@ fn gen_all(alloc: Global, frame: &Frame<'_, '_, '_>, search: &mut Search) -> Res
 }
 
 /// Fills a blank search.
-pub(crate) fn run(
-    alloc: Global,
-    frame: &Frame<'_, '_, '_>,
-    search: &mut Search,
-) -> Result<(), OutOfMemory>
+pub fn run(alloc: Global, frame: &Frame<'_, '_, '_>, search: &mut Search) -> Result<(), OutOfMemory>
     requires frame { IsFrame frame.now }
     requires blank { search.old ≡ nothing_found (point_count frame.now.links.now.program) }
     ensures marks { OnOk result (AreMarks (question_of frame.now) search.new) }
@@ -245,7 +241,7 @@ pub(crate) fn run(
 }
 
 /// Finds what a frame is for.
-pub(crate) fn search_for(alloc: Global, frame: &Frame<'_, '_, '_>) -> Result<Search, OutOfMemory>
+pub fn search_for(alloc: Global, frame: &Frame<'_, '_, '_>) -> Result<Search, OutOfMemory>
     requires { IsFrame frame.now }
     ensures marks { IfOk result (λ search. AreMarks (question_of frame.now) search) }
     ensures complete { IfOk result (λ search. IsComplete (question_of frame.now) search) }

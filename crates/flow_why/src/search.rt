@@ -10,7 +10,7 @@ use std::alloc::Global;
 use std::marker::Model;
 
 /// What is found of points, for each claim those that are marked.
-pub(crate) struct Search {
+pub struct Search {
     holds: Marks,
     generated: Marks,
     preserved: Marks,

@@ -19,14 +19,14 @@ use std::alloc::Global;
 
 /// Where following ends: at the beginning of a search, or at a point to which paths lead.
 #[derive(Clone, Copy)]
-pub(crate) enum Origin {
+pub enum Origin {
     Beginning(u32),
     Base(u32),
 }
 
 /// What comes of following one mark: the end, or the place of a mark before.
 #[derive(Clone, Copy)]
-pub(crate) enum Turn {
+pub enum Turn {
     Ends(Origin),
     On(u32),
 }
@@ -158,7 +158,7 @@ fn collect(
 }
 
 /// The hops by which a point is marked, from where the search begins.
-pub(crate) fn hops_of(
+pub fn hops_of(
     alloc: Global,
     frame: &Frame<'_, '_, '_>,
     search: &Search,
@@ -177,7 +177,7 @@ pub(crate) fn hops_of(
 }
 
 /// The hops by which paths inside a procedure lead to a point, from its entry.
-pub(crate) fn inner_hops_of(
+pub fn inner_hops_of(
     alloc: Global,
     frame: &Frame<'_, '_, '_>,
     point: u32,

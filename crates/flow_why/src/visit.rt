@@ -7,19 +7,19 @@ ghost use Rattle.flow_links.specs.Shapes.{directed_shape};
 ghost use Rattle.summary_equations.specs.Equations.{CallsAt, Generated, Preserved};
 ghost use Rattle.flow_why.specs.declared.claim.Claim.TheVariants as claims;
 ghost use Rattle.flow_why.specs.code.Found.{Has};
-ghost use Rattle.flow_why.specs.code.Frames.{IsFrame, call_after, question_of, transfer_for};
+ghost use Rattle.flow_why.specs.code.Frames.{IsFrame, call_after, question_of, scope_of, transfer_for};
 ghost use Rattle.flow_why.specs.code.Marked.{AreMarks, BaseHas, MayMark, Spreads};
 ghost use Rattle.flow_why.specs.code.Visits.{AreStepsVisited, IsCallVisited, IsCallerVisited, IsVisited};
 
 use crate::OutOfMemory;
 use crate::claim::Claim;
-use crate::frame::{Frame, based, effect, ends_of_call, kills};
+use crate::frame::{Frame, based, effect, ends_of_call, goes_into, is_kept, kills};
 use crate::hop::{Effect, Hop};
 use crate::mark::{Mark, Reason};
 use crate::search::Search;
 
 /// Marks a point, unless it is marked.
-pub(crate) fn add(
+pub fn add(
     _frame: &Frame<'_, '_, '_>,
     search: &mut Search,
     claim: Claim,
@@ -104,8 +104,12 @@ fn enter(
     requires call { (site : ℕ) × CallsAt (directed_shape frame.now.links.now) site at callee }
     requires here { Has search.old claim at }
     ensures spreads { OnOk result (Spreads (question_of frame.now) search.old search.new) }
-    ensures has { OnOk result (claim ≡ claims.Holds → Has search.new claims.Holds ((directed_shape frame.now.links.now).entry callee)) }
+    ensures has { OnOk result (claim ≡ claims.Holds → (scope_of frame.now).skipped callee ≡ false
+        → Has search.new claims.Holds ((directed_shape frame.now.links.now).entry callee)) }
 {
+    if !goes_into(frame, callee) {
+        return Ok(());
+    }
     let (site, _) = ends_of_call(frame, at);
     let to = frame.links.entry(callee);
     let reason = Reason::Own(Hop::Enter { site, from: at, to });
@@ -144,6 +148,55 @@ fn pass(
     add(frame, search, claim, Mark { point: to, reason })
 }
 
+// Goes over a call of a procedure that is not known to keep the bit.
+fn visit_open_call(
+    frame: &Frame<'_, '_, '_>,
+    search: &mut Search,
+    claim: Claim,
+    at: u32,
+    callee: u32,
+) -> Result<(), OutOfMemory>
+    requires frame { IsFrame frame.now }
+    requires marks { AreMarks (question_of frame.now) search.old }
+    requires call { (site : ℕ) × CallsAt (directed_shape frame.now.links.now) site at callee }
+    requires here { Has search.old claim at }
+    ensures spreads { OnOk result (Spreads (question_of frame.now) search.old search.new) }
+    ensures begin { OnOk result (Has search.new claims.Preserved ((directed_shape frame.now.links.now).entry callee)) }
+    ensures pass { OnOk result (Has search.old claims.Preserved ((directed_shape frame.now.links.now).exit callee)
+        → Has search.new claim (call_after frame.now.links.now.backward at)) }
+{
+    begin(frame, search, callee)?;
+    if !search.has(Claim::Preserved, frame.links.exit(callee)) {
+        return Ok(());
+    }
+    pass(frame, search, claim, at, callee)
+}
+
+// Goes over one call, but for what it brings to the callee.
+fn visit_passing(
+    frame: &Frame<'_, '_, '_>,
+    search: &mut Search,
+    claim: Claim,
+    at: u32,
+    callee: u32,
+) -> Result<(), OutOfMemory>
+    requires frame { IsFrame frame.now }
+    requires marks { AreMarks (question_of frame.now) search.old }
+    requires call { (site : ℕ) × CallsAt (directed_shape frame.now.links.now) site at callee }
+    requires here { Has search.old claim at }
+    ensures spreads { OnOk result (Spreads (question_of frame.now) search.old search.new) }
+    ensures begin { OnOk result ((scope_of frame.now).kept callee ≡ false
+        → Has search.new claims.Preserved ((directed_shape frame.now.links.now).entry callee)) }
+    ensures pass { OnOk result (Has search.old claims.Preserved ((directed_shape frame.now.links.now).exit callee)
+        → Has search.new claim (call_after frame.now.links.now.backward at)) }
+    ensures keep { OnOk result ((scope_of frame.now).kept callee ≡ true → Has search.new claim (call_after frame.now.links.now.backward at)) }
+{
+    if is_kept(frame, callee) {
+        return pass(frame, search, claim, at, callee);
+    }
+    visit_open_call(frame, search, claim, at, callee)
+}
+
 // Goes over one call.
 fn visit_call(
     frame: &Frame<'_, '_, '_>,
@@ -159,12 +212,8 @@ fn visit_call(
     ensures spreads { OnOk result (Spreads (question_of frame.now) search.old search.new) }
     ensures visited { OnOk result (IsCallVisited (question_of frame.now) claim at callee search.old search.new) }
 {
-    begin(frame, search, callee)?;
     enter(frame, search, claim, at, callee)?;
-    if !search.has(Claim::Preserved, frame.links.exit(callee)) {
-        return Ok(());
-    }
-    pass(frame, search, claim, at, callee)
+    visit_passing(frame, search, claim, at, callee)
 }
 
 // Goes over the calls from a point.
@@ -330,7 +379,7 @@ fn visit_callers(
 }
 
 /// Goes over all that waits for a claim of a point.
-pub(crate) fn visit(
+pub fn visit(
     frame: &Frame<'_, '_, '_>,
     search: &mut Search,
     claim: Claim,

@@ -10,7 +10,7 @@ ghost use Rattle.flow_why.specs.code.Ways.{AreWays, IsBare};
 
 use crate::OutOfMemory;
 use crate::claim::Claim;
-use crate::frame::{Asked, Frame};
+use crate::frame::{Asked, Frame, Scope};
 use crate::run::search_for;
 use crate::search::Search;
 use flow_links::Links;
@@ -65,6 +65,7 @@ fn bare_frame<'a, 'g, 'p>(
         links,
         asked: Asked::Paths,
         base,
+        scope: Scope::whole(),
     }
 }
 
@@ -103,7 +104,7 @@ impl Ways {
     }
 
     /// The edges.
-    pub(crate) fn links(&self) -> &Links
+    pub fn links(&self) -> &Links
         ensures links { result.now ≡ self.now.linked }
         ensures ways { AreWays self.now }
     {
@@ -111,7 +112,7 @@ impl Ways {
     }
 
     /// What is found of where paths lead.
-    pub(crate) fn search(&self) -> &Search
+    pub fn search(&self) -> &Search
         ensures { result.now ≡ self.now.found }
     {
         &self.search

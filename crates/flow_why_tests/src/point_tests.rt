@@ -6,7 +6,8 @@ ghost use Rattle.flow_links.specs.Shapes.{directed_shape};
 
 use crate::witnesses::{Question, write_found};
 use flow_graph::{Analysis, Graph, OutOfMemory};
-use flow_why::{Effect, PointBit, PointWhy, Ways};
+use flow_why::{Effect, PointBit, Ways};
+use flow_witnesses::PointWhy;
 use gen_kill::Problem;
 use std::alloc::Global;
 use std::process::Abort;

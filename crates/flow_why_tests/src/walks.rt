@@ -6,7 +6,8 @@ ghost use Rattle.flow_why.specs.Directed.{direction_of};
 ghost use Rattle.gen_kill.specs.Selections.{column_count};
 
 use flow_graph::{Analysis, Direction, Edge, Graph, OutOfMemory};
-use flow_why::{Effect, Hop, Ways, Why};
+use flow_why::{Effect, Hop, Ways};
+use flow_witnesses::{Why, witness_at};
 use gen_kill::Problem;
 use std::alloc::Global;
 use std::process::Abort;
@@ -135,7 +136,28 @@ fn is_right(problem: &Problem<'_, '_>, edges: &[Edge], bit: u32, point: u32, hop
     walked(problem, edges, bit, start, hops) == Some(Place { point, has: true })
 }
 
-// How many witnesses of a bit there are and how many of them are right, over all points.
+// Whether a search for all points and one for this point alone find the same: a right witness each, or none.
+fn is_found_alike(
+    problem: &Problem<'_, '_>,
+    edges: &[Edge],
+    bit: u32,
+    point: u32,
+    by_all: Option<Vec<Hop>>,
+    alone: Option<Vec<Hop>>,
+) -> bool
+    requires { bit < column_count problem.now }
+{
+    match (by_all, alone) {
+        (Some(first), Some(second)) => {
+            is_right(problem, edges, bit, point, first.as_slice())
+                && is_right(problem, edges, bit, point, second.as_slice())
+        }
+        (None, None) => true,
+        _ => false,
+    }
+}
+
+// At how many points a bit was asked for, and at how many of them the witnesses are right.
 fn count_bit(
     alloc: Global,
     problem: &Problem<'_, '_>,
@@ -147,17 +169,17 @@ fn count_bit(
     requires bit { bit < column_count problem.now }
 {
     let why = Why::of(alloc, ways, problem, bit)?;
-    let mut found: u64 = 0;
+    let mut asked: u64 = 0;
     let mut right: u64 = 0;
     for point in 0..problem.points() {
-        if let Some(hops) = why.witness(alloc, point)? {
-            found = found.saturating_add(1);
-            if is_right(problem, edges, bit, point, hops.as_slice()) {
-                right = right.saturating_add(1);
-            }
+        let by_all = why.witness(alloc, point)?;
+        let alone = witness_at(alloc, ways, problem, bit, point)?;
+        asked = asked.saturating_add(1);
+        if is_found_alike(problem, edges, bit, point, by_all, alone) {
+            right = right.saturating_add(1);
         }
     }
-    Ok((found, right))
+    Ok((asked, right))
 }
 
 // The same of all bits of an analysis.
@@ -192,7 +214,7 @@ fn check_program<R: Abort + AllocGlobal>(rt: &R, program: &Program) -> Result<()
     Ok(())
 }
 
-/// Each witness of each text's program is walked.
+/// Each witness of each text's program is walked, found by a search for all points, and by one for its point alone.
 pub fn check_all<R: Abort + AllocGlobal>(rt: &R, texts: &[&str]) -> Result<(), Fail> {
     for text in texts {
         let program = read(rt.alloc(), text.as_bytes())?;

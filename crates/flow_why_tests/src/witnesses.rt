@@ -7,7 +7,8 @@ ghost use Rattle.flow_why.specs.Directed.{direction_of};
 ghost use Rattle.gen_kill.specs.Selections.{column_count};
 
 use flow_graph::{Analysis, Graph, OutOfMemory};
-use flow_why::{Effect, Hop, Ways, Why};
+use flow_why::{Effect, Hop, Ways};
+use flow_witnesses::Why;
 use gen_kill::Problem;
 use std::alloc::Global;
 use std::process::Abort;

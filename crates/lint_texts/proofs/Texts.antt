@@ -1,8 +1,8 @@
 -- The parts of the text
 use Rattle.std.proofs.Common.{◌≡◌, ℕ, ◌+◌, ◌<◌, Bool, true, false, cond, List, [], ◌∷◌, ◌++◌, length, get_or, take, flat_map, nat_eq, if◌then◌else◌}
-use Rattle.std.proofs.Common.{codes, decimal, sym, ap, ◌∙◌, refl, subst, append-nil}
-use Rattle.std.specs.List.{count_by}
-use Rattle.std.proofs.Math.Seq.{take-length}
+use Rattle.std.proofs.Common.{suc, ◌||◌, drop, codes, decimal, sym, ap, ◌∙◌, refl, subst, append-nil, arith}
+use Rattle.std.specs.List.{count_by, list_any}
+use Rattle.std.proofs.Math.Seq.{drop-cons, take-length}
 use Rattle.std.proofs.lemmas.Bool.{eq-eqb, eqb-true}
 use Rattle.std.proofs.lemmas.Grind.{flat_map-append}
 use Rattle.std.proofs.lemmas.List.{take_more}
@@ -10,8 +10,8 @@ use Rattle.std.proofs.lemmas.List.Sums.{count_by_more_no, count_by_more_yes}
 use Rattle.flow_lints.specs.Lints.{IsLinted}
 use Rattle.flow_lints.specs.declared.lint.Linted.{Linted}
 use Rattle.flow_texts.specs.Tables.{line_at}
-use Rattle.lint_texts.specs.LintTexts.{IsLintText, TellsLints, remark_count, unreached_words, untold_words}
-use Rattle.lint_texts.specs.declared.kinds.Kinds.{Kinds}
+use Rattle.lint_texts.specs.LintTexts.{FileText, IsLintText, TellsLints, remark_count, unreached_words, untold_words}
+use Rattle.lint_texts.specs.declared.telling.Telling.{Telling}
 use Rattle.tac_program.specs.Programs.{Program}
 
 -- what a choice by equality gives
@@ -60,6 +60,19 @@ module _ {X : Type 0} (xs : List X) (i : ℕ) where
       ∙ ap (λ y. flat_map f (take i xs ++ y ∷ [])) read
       ∙ ap (flat_map f) (sym (take_more xs i x below))
 
+  -- whether one of those from here on passes a test: the first of them does, or it is asked of those behind it
+  pub any_here : (p : X → Bool) (x : X) → i < length xs → x ≡ get_or xs i x → p x ≡ true → list_any p (drop i xs) ≡ true
+  any_here p x below read is =
+      ap (list_any p) (drop-cons xs i x below) ∙ ap (λ t. t || list_any p (drop (suc i) xs)) (ap p (sym read) ∙ is)
+
+  pub any_behind : (p : X → Bool) (x : X) → i < length xs → x ≡ get_or xs i x → p x ≡ false
+      → list_any p (drop i xs) ≡ list_any p (drop (i + 1) xs)
+  any_behind p x below read is =
+      let next : suc i ≡ i + 1 = omega arith in
+      ap (list_any p) (drop-cons xs i x below)
+      ∙ ap (λ t. t || list_any p (drop (suc i) xs)) (ap p (sym read) ∙ is)
+      ∙ ap (λ n. list_any p (drop n xs)) next
+
   -- one element more is counted
   pub count_more : (p : X → Bool) (x : X) (count more : ℕ) (b : Bool) → i < length xs → x ≡ get_or xs i x → count ≡ count_by p (take i xs)
       → b ≡ p x → more ≡ (if b then count + 1 else count) → more ≡ count_by p (take (i + 1) xs)
@@ -71,7 +84,7 @@ module _ {X : Type 0} (xs : List X) (i : ℕ) where
   pub all_taken : {A : Type 0} (f : List X → A) (ys : List X) → i ≡ length xs → xs ≡ ys → f (take i xs) ≡ f ys
   all_taken f ys all same = ap (λ n. f (take n xs)) all ∙ ap f (take-length xs) ∙ ap f same
 
-pub tells : (file : List ℕ) (kinds : Kinds) (program : Program) (linted : Linted) (text whole : List ℕ) → IsLinted program linted
-    → IsLintText file kinds program linted text → whole ≡ text → TellsLints file kinds program whole
-tells file kinds program linted text whole is_linted is_text same =
-    record { linted = linted; is_linted = is_linted; is_text = subst (IsLintText file kinds program linted) (sym same) is_text }
+pub tells : (file : FileText) (telling : Telling) (program : Program) (linted : Linted) (text whole : List ℕ) → IsLinted program linted
+    → IsLintText file telling program linted text → whole ≡ text → TellsLints file telling program whole
+tells file telling program linted text whole is_linted is_text same =
+    record { linted = linted; is_linted = is_linted; is_text = subst (IsLintText file telling program linted) (sym same) is_text }

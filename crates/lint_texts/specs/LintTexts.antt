@@ -1,9 +1,9 @@
 -- The text of what a linter tells of a program.
 use Rattle.std.specs.Prelude.{◌≡◌, ◌↔◌, ℕ, ◌+◌, ◌-◌, ◌<◌, Bool, true, false, not, ◌&&◌, List, [], ◌++◌, flat_map, Option, Some, None}
-use Rattle.std.specs.Prelude.{if◌then◌else◌, codes, decimal, count_by, nat_eq, nat_lt}
+use Rattle.std.specs.Prelude.{if◌then◌else◌, codes, decimal, count_by, nat_eq, nat_lt, option_map, take, unwrap_or}
 use Rattle.std.specs.List.{prefix_len, range_with_len}
 use Rattle.flow_graph.specs.Analyses.{HasPathAt}
-use Rattle.flow_graph.specs.Points.{kind_at, point_count}
+use Rattle.flow_graph.specs.Points.{kind_at, point_count, procedure_at, statement_at}
 use Rattle.flow_graph.specs.declared.analysis.Analysis.TheVariants.{Reach, Avail, Busy}
 use Rattle.flow_lints.specs.Lints.{IsLinted}
 use Rattle.flow_lints.specs.declared.lint.Lint.{Lint}
@@ -13,7 +13,13 @@ use Rattle.flow_lints.specs.declared.lint.PlacedLint.{PlacedLint}
 use Rattle.flow_reports.specs.declared.remark.Remark.{Remark}
 use Rattle.flow_reports.specs.declared.remark.Remark.TheVariants.{NeverReached, Unset, Computed, VeryBusy, Dead}
 use Rattle.flow_texts.specs.Tables.{bit_text, line_at, variable_text}
+use Rattle.lint_styles.specs.Styles.{painted, source_at}
+use Rattle.lint_styles.specs.declared.style.Hue.TheVariants as hue
+use Rattle.lint_styles.specs.declared.style.Style.{Style}
+use Rattle.lint_texts.specs.declared.file.File.{File}
 use Rattle.lint_texts.specs.declared.kinds.Kinds.{Kinds}
+use Rattle.lint_texts.specs.declared.telling.Telling.{Telling}
+use Rattle.tac_lines.specs.Text.{column_after}
 use Rattle.tac_program.specs.Names.{name_at}
 use Rattle.tac_program.specs.Programs.{Program}
 
@@ -32,6 +38,15 @@ is_remark_wanted kinds (Dead variable) = kinds.dead
 abbrev pub is_wanted : Kinds → Lint → Bool
 is_wanted kinds (NeverCalled procedure) = kinds.never_called
 is_wanted kinds (Told remark) = is_remark_wanted kinds remark
+
+-- whether a point lies in a procedure, where one is given
+abbrev pub is_in : Program → Option ℕ → ℕ → Bool
+is_in program None point = true
+is_in program (Some procedure) point = nat_eq (procedure_at program point) procedure
+
+-- whether a lint is told: it is of a kind that is wanted, and lies where that is asked for
+abbrev pub is_told : Telling → Program → PlacedLint → Bool
+is_told telling program placed = is_wanted telling.kinds placed.lint && is_in program telling.procedure placed.point
 
 -- what a kind is called
 abbrev pub remark_kind : Remark → List ℕ
@@ -71,19 +86,45 @@ abbrev pub lint_words : Program → (ℕ → Bool) → ℕ → Lint → List ℕ
 lint_words program reached point (NeverCalled procedure) = codes "procedure " ++ name_at program.procedure_names procedure ++ codes " is never called"
 lint_words program reached point (Told remark) = remark_words program reached point remark
 
--- `FILE:LINE: `
-abbrev pub place_words : List ℕ → Program → ℕ → List ℕ
-place_words file program point = file ++ codes ":" ++ decimal (line_at program point) ++ codes ": "
+-- a file: what it is called, and its text
+pub record FileText : Type 0 where
+  pub name : List ℕ
+  pub text : List ℕ
 
--- `FILE:LINE: KIND: WORDS`
-abbrev pub lint_line : List ℕ → Program → (ℕ → Bool) → PlacedLint → List ℕ
-lint_line file program reached placed =
-    place_words file program placed.point ++ kind_text placed.lint ++ codes ": " ++ lint_words program reached placed.point placed.lint
-    ++ codes "\n"
+abbrev pub file_text : File → FileText
+file_text file = record { name = file.name.now; text = file.text.now }
 
--- the line of a lint that is wanted
-abbrev pub wanted_line : List ℕ → Kinds → Program → (ℕ → Bool) → PlacedLint → List ℕ
-wanted_line file kinds program reached placed = if is_wanted kinds placed.lint then lint_line file program reached placed else []
+-- in which column of its line the statement at a point begins, from 1; 1 where there is none
+abbrev pub start_at : Program → ℕ → ℕ
+start_at program point = unwrap_or (option_map (λ s. s.span.start) (statement_at program point)) 0
+
+abbrev pub column_at : List ℕ → Program → ℕ → ℕ
+column_at text program point = column_after (take (start_at program point) text)
+
+-- `FILE:LINE:COLUMN: `
+abbrev pub place_words : FileText → Program → ℕ → List ℕ
+place_words file program point =
+    file.name ++ codes ":" ++ decimal (line_at program point) ++ codes ":" ++ decimal (column_at file.text program point) ++ codes ": "
+
+-- `FILE:LINE:COLUMN: KIND: WORDS`
+abbrev pub lint_line : FileText → Style → Program → (ℕ → Bool) → PlacedLint → List ℕ
+lint_line file style program reached placed =
+    place_words file program placed.point ++ painted style hue.Remark (kind_text placed.lint) ++ codes ": "
+    ++ lint_words program reached placed.point placed.lint ++ codes "\n"
+
+-- the line of the source in which the statement at a point begins, where there is one
+abbrev pub source_line : FileText → Style → Program → ℕ → List ℕ
+source_line file style program point = elim (statement_at program point) [
+  | Some statement ↦ source_at style file.text statement.span.line statement.span.start
+  | None ↦ []
+]
+
+-- the lines of a lint that is told
+abbrev pub told_lines : FileText → Telling → Program → (ℕ → Bool) → PlacedLint → List ℕ
+told_lines file telling program reached placed =
+    if is_told telling program placed
+    then lint_line file telling.style program reached placed ++ source_line file telling.style program placed.point
+    else []
 
 abbrev pub untold_words : ℕ → List ℕ
 untold_words count = if nat_eq count 1 then codes "1 dead assignment is not told" else decimal count ++ codes " dead assignments are not told"
@@ -93,14 +134,15 @@ endless_words program (Some point) = codes " (from line " ++ decimal (line_at pr
 endless_words program None = []
 
 -- `FILE: note: N dead assignments are not told, since the program may never end (from line L on)`
-abbrev pub untold_line : List ℕ → Program → Linted → List ℕ
-untold_line file program linted =
-    file ++ codes ": note: " ++ untold_words linted.left_out ++ codes ", since the program may never end" ++ endless_words program linted.endless
-    ++ codes "\n"
+abbrev pub untold_line : List ℕ → Style → Program → Linted → List ℕ
+untold_line file style program linted =
+    file ++ codes ": " ++ painted style hue.Note (codes "note") ++ codes ": " ++ untold_words linted.left_out
+    ++ codes ", since the program may never end" ++ endless_words program linted.endless ++ codes "\n"
 
 -- that line, where dead assignments are wanted and some are left out
-abbrev pub wanted_note : List ℕ → Kinds → Program → Linted → List ℕ
-wanted_note file kinds program linted = if kinds.dead && nat_lt 0 linted.left_out then untold_line file program linted else []
+abbrev pub wanted_note : List ℕ → Telling → Program → Linted → List ℕ
+wanted_note file telling program linted =
+    if telling.kinds.dead && nat_lt 0 linted.left_out then untold_line file telling.style program linted else []
 
 abbrev pub remark_count : ℕ → List ℕ
 remark_count count = if nat_eq count 0 then codes "no remarks" else if nat_eq count 1 then codes "1 remark" else decimal count ++ codes " remarks"
@@ -109,26 +151,26 @@ remark_count count = if nat_eq count 0 then codes "no remarks" else if nat_eq co
 abbrev pub count_line : List ℕ → ℕ → List ℕ
 count_line file count = file ++ codes ": " ++ remark_count count ++ codes "\n"
 
--- The text of a file of this name: a line for each lint that is wanted, in their order, the note on dead assignments, and how many lines have
--- a lint.
-abbrev pub lint_text_of : List ℕ → Kinds → Program → (ℕ → Bool) → Linted → List ℕ
-lint_text_of file kinds program reached linted =
-    flat_map (wanted_line file kinds program reached) linted.lints.items
-    ++ wanted_note file kinds program linted
-    ++ count_line file (count_by (λ placed. is_wanted kinds placed.lint) linted.lints.items)
+-- The text of a file: the lines of each lint that is told, in their order, the note on dead assignments, which is of the whole file, and how
+-- many lints are told.
+abbrev pub lint_text_of : FileText → Telling → Program → (ℕ → Bool) → Linted → List ℕ
+lint_text_of file telling program reached linted =
+    flat_map (told_lines file telling program reached) linted.lints.items
+    ++ wanted_note file.name telling program linted
+    ++ count_line file.name (count_by (is_told telling program) linted.lints.items)
 
 -- at each point of the program: whether some valid path leads there
 abbrev pub TellReached : Program → (ℕ → Bool) → Type 0
 TellReached program reached = (point : ℕ) → point < point_count program → (reached point ≡ true) ↔ HasPathAt program Reach point
 
 -- The text tells these lints of the program.
-pub record IsLintText (file : List ℕ) (kinds : Kinds) (program : Program) (linted : Linted) (text : List ℕ) : Type 0 where
+pub record IsLintText (file : FileText) (telling : Telling) (program : Program) (linted : Linted) (text : List ℕ) : Type 0 where
   pub reached : ℕ → Bool
   pub are_reached : TellReached program reached
-  pub is_text : text ≡ lint_text_of file kinds program reached linted
+  pub is_text : text ≡ lint_text_of file telling program reached linted
 
 -- The text tells what is told of the program: its lints are over the meets over all valid paths.
-pub record TellsLints (file : List ℕ) (kinds : Kinds) (program : Program) (text : List ℕ) : Type 0 where
+pub record TellsLints (file : FileText) (telling : Telling) (program : Program) (text : List ℕ) : Type 0 where
   pub linted : Linted
   pub is_linted : IsLinted program linted
-  pub is_text : IsLintText file kinds program linted text
+  pub is_text : IsLintText file telling program linted text

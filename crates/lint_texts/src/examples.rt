@@ -5,18 +5,22 @@ ghost use Rattle.flow_lints.specs.Examples.{known_of_early, known_of_uncalled, m
 ghost use Rattle.flow_lints.specs.Lints.{is_reached};
 ghost use Rattle.flow_lints.specs.declared.lint.Lint.TheVariants.{NeverCalled, Told};
 ghost use Rattle.flow_reports.specs.declared.remark.Remark.TheVariants.{Dead, NeverReached};
-ghost use Rattle.lint_texts.specs.LintTexts.{count_line, endless_words, lint_line, untold_words};
+ghost use Rattle.lint_texts.specs.Examples.{a_tac, early_text, labelled_text, plain, uncalled_text};
+ghost use Rattle.lint_texts.specs.LintTexts.{column_at, count_line, endless_words, lint_line, untold_words};
+ghost use Rattle.tac_reader.specs.Parses.{program_of};
 
 /// A procedure that is never called, statements that are never reached and a value that is never used.
 pub fn line_examples()
-    ensures uncalled { lint_line (codes "a.tac") uncalled_endless (is_reached known_of_uncalled) (record { point = 5; lint = NeverCalled 2 })
-        ≡ codes "a.tac:9: never-called: procedure q is never called\n" }
-    ensures stretch { lint_line (codes "a.tac") returns_early (is_reached known_of_early) (record { point = 2; lint = Told NeverReached })
-        ≡ codes "a.tac:4: never-reached: no statement from here to line 5 is ever reached\n" }
-    ensures alone { lint_line (codes "a.tac") returns_early (is_reached known_of_early) (record { point = 3; lint = Told NeverReached })
-        ≡ codes "a.tac:5: never-reached: this statement is never reached\n" }
-    ensures dead { lint_line (codes "a.tac") returns_early (is_reached known_of_early) (record { point = 0; lint = Told (Dead 0) })
-        ≡ codes "a.tac:2: dead: the value assigned to x is never used\n" }
+    ensures uncalled { lint_line (a_tac uncalled_text) plain uncalled_endless (is_reached known_of_uncalled) (record { point = 5; lint = NeverCalled 2 })
+        ≡ codes "a.tac:9:1: never-called: procedure q is never called\n" }
+    ensures stretch { lint_line (a_tac early_text) plain returns_early (is_reached known_of_early) (record { point = 2; lint = Told NeverReached })
+        ≡ codes "a.tac:4:1: never-reached: no statement from here to line 5 is ever reached\n" }
+    ensures alone { lint_line (a_tac early_text) plain returns_early (is_reached known_of_early) (record { point = 3; lint = Told NeverReached })
+        ≡ codes "a.tac:5:1: never-reached: this statement is never reached\n" }
+    ensures dead { lint_line (a_tac early_text) plain returns_early (is_reached known_of_early) (record { point = 0; lint = Told (Dead 0) })
+        ≡ codes "a.tac:2:1: dead: the value assigned to x is never used\n" }
+    ensures column { column_at labelled_text (program_of labelled_text) 0 ≡ 5 }
+    ensures no_statement { column_at labelled_text (program_of labelled_text) 1 ≡ 1 }
 {}
 
 /// What is said of dead assignments that are left out, and of how many remarks there are.

@@ -1,22 +1,24 @@
 // The lines of lints.
 
-ghost use Rattle.std.specs.Prelude.{◌≡◌, ◌<◌, ◌++◌, codes, count_by, decimal, flat_map};
+ghost use Rattle.std.specs.Prelude.{◌≡◌, ◌<◌, ◌-◌, ◌^◌, ◌++◌, codes, count_by, decimal, flat_map, length};
 ghost use Rattle.flow_graph.specs.Points.{point_count};
 ghost use Rattle.flow_graph.specs.declared.analysis.Analysis.TheVariants.{Avail};
 ghost use Rattle.flow_texts.specs.Tables.{bit_text, variable_text};
-ghost use Rattle.lint_texts.specs.LintTexts.{count_line, endless_words, is_unreached as is_unreached_at, is_wanted, last_unreached, lint_line};
-ghost use Rattle.lint_texts.specs.LintTexts.{lint_text_of, lint_words, place_words, remark_count, remark_words, unreached_words};
-ghost use Rattle.lint_texts.specs.LintTexts.{untold_line, untold_words, wanted_line, wanted_note};
+ghost use Rattle.lint_texts.specs.LintTexts.{column_at, count_line, endless_words, file_text, is_told, is_unreached as is_unreached_at, last_unreached};
+ghost use Rattle.lint_texts.specs.LintTexts.{lint_line, lint_text_of, lint_words, place_words, remark_count, remark_words, source_line, start_at};
+ghost use Rattle.lint_texts.specs.LintTexts.{told_lines, unreached_words, untold_line, untold_words, wanted_note};
 ghost use Rattle.lint_texts.specs.code.Lines.{AreLintLines, IsPointIn, reached_in};
 ghost use Rattle.tac_program.specs.Names.{name_at};
 ghost use Rattle.text_pieces.specs.Pieces.{CanWrite, Writes};
 
-use crate::kinds::{Kinds, kind_name};
+use crate::file::File;
+use crate::kinds::kind_name;
+use crate::telling::Telling;
 use flow_graph::{Analysis, Graph};
 use flow_lints::{Lint, Linted, PlacedLint};
 use flow_reports::{Remark, ReportAnswers};
 use flow_texts::{line, write_number};
-use itoa::Buffer;
+use lint_styles::{Hue, column_of, write_painted, write_size, write_source_at};
 use text_pieces::{Pieces, Sink, TextBlock};
 
 // Writes how many dead assignments are not told.
@@ -30,14 +32,6 @@ fn write_untold<K: Sink>(out: &mut Pieces<'_, K>, count: u32)
         write_number(out, count);
         out.write(b" dead assignments are not told");
     }
-}
-
-// Writes a number in decimal.
-fn write_size<K: Sink>(out: &mut Pieces<'_, K>, number: usize)
-    requires { CanWrite K.Sink out.old }
-    ensures { Writes K.Sink out.old out.new (decimal number) }
-{
-    out.write(Buffer::new().format(number).as_bytes());
 }
 
 // Writes how many remarks there are.
@@ -55,11 +49,22 @@ fn write_remark_count<K: Sink>(out: &mut Pieces<'_, K>, count: usize)
     }
 }
 
+// Where the statement at a point begins; 0 where there is none.
+fn start_of(graph: &Graph<'_>, point: u32) -> u32
+    requires { point < point_count graph.now }
+    ensures { result ≡ start_at graph.now point }
+{
+    match graph.stmt(point) {
+        Some(statement) => statement.span.start,
+        None => 0,
+    }
+}
+
 /// What the text of lints is written of.
 #[derive(Drop)]
 pub(crate) struct LintLines<'a> {
-    pub file: &'a [u8],
-    pub kinds: Kinds,
+    pub file: File<'a>,
+    pub telling: Telling,
     pub graph: &'a Graph<'a>,
     pub answers: &'a ReportAnswers,
     pub linted: &'a Linted,
@@ -191,15 +196,27 @@ impl LintLines<'_> {
         }
     }
 
+    // In which column the statement at a point begins.
+    fn column(&self, point: u32) -> usize
+        requires { point < point_count self.now.graph.now }
+        ensures { result ≡ column_at self.now.file.text.now self.now.graph.now point }
+    {
+        let text = self.file.text;
+        let start = start_of(self.graph, point) as usize;
+        column_of(&text[..start.min(text.len())])
+    }
+
     // Writes where a lint stands.
     fn write_place<K: Sink>(&self, out: &mut Pieces<'_, K>, placed: PlacedLint)
         requires ready { CanWrite K.Sink out.old }
         requires point { placed.point < point_count self.now.graph.now }
-        ensures { Writes K.Sink out.old out.new (place_words self.now.file.now self.now.graph.now placed.point) }
+        ensures { Writes K.Sink out.old out.new (place_words (file_text self.now.file) self.now.graph.now placed.point) }
     {
-        out.write(self.file);
+        out.write(self.file.name);
         out.write(b":");
         write_number(out, line(self.graph, placed.point));
+        out.write(b":");
+        write_size(out, self.column(placed.point));
         out.write(b": ");
     }
 
@@ -208,37 +225,61 @@ impl LintLines<'_> {
         requires ready { CanWrite K.Sink out.old }
         requires lines { AreLintLines self.now }
         requires point { placed.point < point_count self.now.graph.now }
-        ensures { Writes K.Sink out.old out.new (lint_line self.now.file.now self.now.graph.now (reached_in self.now) placed) }
+        ensures { Writes K.Sink out.old out.new (lint_line (file_text self.now.file) self.now.telling.style self.now.graph.now (reached_in self.now) placed) }
     {
         self.write_place(out, placed);
-        out.write(kind_name(placed.lint));
+        write_painted(out, self.telling.style, Hue::Remark, kind_name(placed.lint));
         out.write(b": ");
         self.write_words(out, placed);
         out.write(b"\n");
     }
 
-    // Writes the line of a lint, where it is wanted.
-    fn write_wanted<K: Sink>(&self, out: &mut Pieces<'_, K>, placed: PlacedLint)
+    // Writes the line of the source in which the statement at a point begins.
+    fn write_source<K: Sink>(&self, out: &mut Pieces<'_, K>, point: u32)
         requires ready { CanWrite K.Sink out.old }
-        requires lines { AreLintLines self.now }
-        requires point { placed.point < point_count self.now.graph.now }
-        ensures { Writes K.Sink out.old out.new (wanted_line self.now.file.now self.now.kinds self.now.graph.now (reached_in self.now) placed) }
+        requires point { point < point_count self.now.graph.now }
+        ensures { Writes K.Sink out.old out.new (source_line (file_text self.now.file) self.now.telling.style self.now.graph.now point) }
     {
-        if self.kinds.wants(placed.lint) {
-            self.write_line(out, placed);
+        match self.graph.stmt(point) {
+            Some(statement) => {
+                let span = statement.span;
+                write_source_at(
+                    out,
+                    self.telling.style,
+                    self.file.text,
+                    span.line,
+                    span.start,
+                )
+            }
+            None => {}
         }
     }
 
-    // Writes the lines of all lints that are wanted.
+    // Writes the lines of a lint, where it is told.
+    fn write_told<K: Sink>(&self, out: &mut Pieces<'_, K>, placed: PlacedLint)
+        requires ready { CanWrite K.Sink out.old }
+        requires lines { AreLintLines self.now }
+        requires point { placed.point < point_count self.now.graph.now }
+        ensures { Writes K.Sink out.old out.new
+            (told_lines (file_text self.now.file) self.now.telling self.now.graph.now (reached_in self.now) placed) }
+    {
+        if self.telling.tells(self.graph, placed) {
+            self.write_line(out, placed);
+            self.write_source(out, placed.point);
+        }
+    }
+
+    // Writes the lines of all lints that are told.
     fn write_lints<K: Sink>(&self, out: &mut Pieces<'_, K>)
         requires ready { CanWrite K.Sink out.old }
         requires lines { AreLintLines self.now }
         ensures { Writes K.Sink out.old out.new
-            (flat_map (wanted_line self.now.file.now self.now.kinds self.now.graph.now (reached_in self.now)) self.now.linted.now.lints.items) }
+            (flat_map (told_lines (file_text self.now.file) self.now.telling self.now.graph.now (reached_in self.now))
+            self.now.linted.now.lints.items) }
     {
         let lints = self.linted.lints.as_slice();
         for placed in lints {
-            self.write_wanted(out, *placed);
+            self.write_told(out, *placed);
         }
     }
 
@@ -259,10 +300,12 @@ impl LintLines<'_> {
     fn write_untold_line<K: Sink>(&self, out: &mut Pieces<'_, K>)
         requires ready { CanWrite K.Sink out.old }
         requires lines { AreLintLines self.now }
-        ensures { Writes K.Sink out.old out.new (untold_line self.now.file.now self.now.graph.now self.now.linted.now) }
+        ensures { Writes K.Sink out.old out.new (untold_line self.now.file.name.now self.now.telling.style self.now.graph.now self.now.linted.now) }
     {
-        out.write(self.file);
-        out.write(b": note: ");
+        out.write(self.file.name);
+        out.write(b": ");
+        write_painted(out, self.telling.style, Hue::Note, b"note");
+        out.write(b": ");
         write_untold(out, self.linted.left_out);
         out.write(b", since the program may never end");
         self.write_endless(out);
@@ -273,21 +316,22 @@ impl LintLines<'_> {
     fn write_note<K: Sink>(&self, out: &mut Pieces<'_, K>)
         requires ready { CanWrite K.Sink out.old }
         requires lines { AreLintLines self.now }
-        ensures { Writes K.Sink out.old out.new (wanted_note self.now.file.now self.now.kinds self.now.graph.now self.now.linted.now) }
+        ensures { Writes K.Sink out.old out.new (wanted_note self.now.file.name.now self.now.telling self.now.graph.now self.now.linted.now) }
     {
-        if self.kinds.dead && 0 < self.linted.left_out {
+        if self.telling.kinds.dead && 0 < self.linted.left_out {
             self.write_untold_line(out);
         }
     }
 
-    // How many lints are wanted.
-    fn wanted_count(&self) -> usize
-        ensures { result ≡ count_by (λ placed. is_wanted self.now.kinds placed.lint) self.now.linted.now.lints.items }
+    // How many lints are told.
+    fn told_count(&self) -> usize
+        requires { AreLintLines self.now }
+        ensures { result ≡ count_by (is_told self.now.telling self.now.graph.now) self.now.linted.now.lints.items }
     {
         let lints = self.linted.lints.as_slice();
         let mut count = 0;
         for placed in lints {
-            if self.kinds.wants(placed.lint) {
+            if self.telling.tells(self.graph, *placed) {
                 count += 1;
             }
         }
@@ -297,12 +341,13 @@ impl LintLines<'_> {
     // Writes how many remarks there are.
     fn write_count<K: Sink>(&self, out: &mut Pieces<'_, K>)
         requires ready { CanWrite K.Sink out.old }
+        requires lines { AreLintLines self.now }
         ensures { Writes K.Sink out.old out.new
-            (count_line self.now.file.now (count_by (λ placed. is_wanted self.now.kinds placed.lint) self.now.linted.now.lints.items)) }
+            (count_line self.now.file.name.now (count_by (is_told self.now.telling self.now.graph.now) self.now.linted.now.lints.items)) }
     {
-        out.write(self.file);
+        out.write(self.file.name);
         out.write(b": ");
-        write_remark_count(out, self.wanted_count());
+        write_remark_count(out, self.told_count());
         out.write(b"\n");
     }
 
@@ -311,7 +356,7 @@ impl LintLines<'_> {
         requires ready { CanWrite K.Sink out.old }
         requires lines { AreLintLines self.now }
         ensures { Writes K.Sink out.old out.new
-            (lint_text_of self.now.file.now self.now.kinds self.now.graph.now (reached_in self.now) self.now.linted.now) }
+            (lint_text_of (file_text self.now.file) self.now.telling self.now.graph.now (reached_in self.now) self.now.linted.now) }
     {
         self.write_lints(out);
         self.write_note(out);

@@ -3,11 +3,12 @@
 ghost use Rattle.std.specs.Prelude.{IfOk};
 ghost use Rattle.flow_lints.specs.Lints.{IsLinted};
 ghost use Rattle.flow_reports.specs.code.Reported.{TellReport};
-ghost use Rattle.lint_texts.specs.LintTexts.{IsLintText, TellsLints};
+ghost use Rattle.lint_texts.specs.LintTexts.{IsLintText, TellsLints, file_text};
 
 use crate::OutOfMemory;
-use crate::kinds::Kinds;
+use crate::file::File;
 use crate::lines::LintLines;
+use crate::telling::Telling;
 use flow_graph::{Analysis, Graph};
 use flow_lints::{Linted, linted};
 use flow_reports::ReportAnswers;
@@ -16,8 +17,8 @@ use std::alloc::Global;
 use std::marker::Model;
 use text_pieces::{Pieces, Sink, Text, whole_text};
 
-/// What a linter tells of the program of a file: a line `FILE:LINE: KIND: WORDS` for each lint of a kind that is wanted, in the order of
-/// points; where dead assignments are wanted and some are left out, since the program may never end behind them, a line that says so; and a
+/// What a linter tells of the program of a file: a line `FILE:LINE:COLUMN: KIND: WORDS` for each lint of a kind that is wanted, in the order of
+/// points, and behind it, where the style says so, the line of the source; where dead assignments are wanted and some are left out, since the program may never end behind them, a line that says so; and a
 /// last line `FILE: N remarks`.
 #[derive(Drop)]
 pub struct LintText<'a> {
@@ -26,38 +27,39 @@ pub struct LintText<'a> {
 
 impl<'a> Model for LintText<'a> {
     ghost use Rattle.std.specs.Prelude.{List, ℕ};
-    ghost use Rattle.lint_texts.specs.LintTexts.{lint_text_of};
+    ghost use Rattle.lint_texts.specs.LintTexts.{file_text, lint_text_of};
     ghost use Rattle.lint_texts.specs.code.Lines.{AreLintLines, reached_in};
 
     ghost Value = { List ℕ };
 
-    ghost view = { λ text. lint_text_of text.lines.file.now text.lines.kinds text.lines.graph.now (reached_in text.lines) text.lines.linted.now };
+    ghost view = { λ text. lint_text_of (file_text text.lines.file) text.lines.telling text.lines.graph.now
+        (reached_in text.lines) text.lines.linted.now };
 
     ghost invariant = { λ text. AreLintLines text.lines };
 }
 
 impl<'a> LintText<'a> {
-    /// The text of a file of this name, ready to be written.
+    /// The text of a file, ready to be written.
     ///
     /// The conditions: the answers are to what a report on this graph's program asks, and the lints are the program's. Fails only where memory
     /// runs out.
     pub fn of(
         alloc: Global,
-        file: &'a [u8],
-        kinds: Kinds,
+        file: File<'a>,
+        telling: Telling,
         graph: &'a Graph<'a>,
         answers: &'a ReportAnswers,
         linted: &'a Linted,
     ) -> Result<LintText<'a>, OutOfMemory>
         requires answers { TellReport graph.now answers.now }
         requires linted { IsLinted graph.now linted.now }
-        ensures { IfOk result (IsLintText file.now kinds graph.now linted.now) }
+        ensures { IfOk result (IsLintText (file_text file.entry) telling graph.now linted.now) }
     {
         let expressions = texts_of_bits(alloc, graph, Analysis::Avail)?;
         Ok(LintText {
             lines: LintLines {
                 file,
-                kinds,
+                telling,
                 graph,
                 answers,
                 linted,
@@ -75,19 +77,19 @@ impl<'a> Text for LintText<'a> {
     }
 }
 
-/// What a linter tells of the program of a file of this name, made whole, of what is found on the calling thread. Its room grows by doubling;
+/// What a linter tells of the program of a file, made whole, of what is found on the calling thread. Its room grows by doubling;
 /// fails as [`ReportAnswers`] do.
 pub fn lint_text_here(
     alloc: Global,
-    file: &[u8],
-    kinds: Kinds,
+    file: File<'_>,
+    telling: Telling,
     graph: &Graph<'_>,
 ) -> Result<Vec<u8>, OutOfMemory>
-    ensures { IfOk result (λ text. TellsLints file.now kinds graph.now text.items) }
+    ensures { IfOk result (λ text. TellsLints (file_text file.entry) telling graph.now text.items) }
 {
     let answers = ReportAnswers::answered_here(alloc, graph)?;
     let told = linted(alloc, graph, &answers)?;
-    let text = LintText::of(alloc, file, kinds, graph, &answers, &told)?;
+    let text = LintText::of(alloc, file, telling, graph, &answers, &told)?;
     let whole = whole_text(alloc, &text)?;
     Ok(whole)
 }

@@ -1,7 +1,8 @@
 // The text of a program's lints.
 
 use flow_graph::{Graph, OutOfMemory};
-use lint_texts::{Kinds, lint_text_here};
+use lint_styles::Style;
+use lint_texts::{File, Kinds, Telling, lint_text_here};
 use std::alloc::Global;
 use std::process::Abort;
 use std::test::Fail;
@@ -9,6 +10,24 @@ use tac_reader::{Program, read};
 
 /// A text, and the lines that are written of it.
 pub type Row = (&'static str, &'static [&'static str]);
+
+/// Lines alone.
+pub const PLAIN: Style = Style {
+    source: false,
+    color: false,
+};
+
+/// Lines with those of the source behind them.
+pub const WITH_SOURCE: Style = Style {
+    source: true,
+    color: false,
+};
+
+/// The same in colours.
+pub const COLORED: Style = Style {
+    source: true,
+    color: true,
+};
 
 /// All kinds.
 pub fn all_kinds() -> Kinds {
@@ -34,14 +53,23 @@ pub fn other_kinds() -> Kinds {
     }
 }
 
-fn text_of_program(alloc: Global, kinds: Kinds, program: &Program) -> Result<Vec<u8>, Fail> {
+fn text_of_program(
+    alloc: Global,
+    telling: Telling,
+    text: &str,
+    program: &Program,
+) -> Result<Vec<u8>, Fail> {
     let graph = Graph::build(alloc, program)?;
-    Ok(lint_text_here(alloc, b"a.tac", kinds, &graph)?)
+    let file = File {
+        name: b"a.tac",
+        text: text.as_bytes(),
+    };
+    Ok(lint_text_here(alloc, file, telling, &graph)?)
 }
 
-fn text_of(alloc: Global, kinds: Kinds, text: &str) -> Result<Vec<u8>, Fail> {
+fn text_of(alloc: Global, telling: Telling, text: &str) -> Result<Vec<u8>, Fail> {
     let program = read(alloc, text.as_bytes())?;
-    text_of_program(alloc, kinds, &program)
+    text_of_program(alloc, telling, text, &program)
 }
 
 fn joined(alloc: Global, lines: &[&'static str]) -> Result<Vec<u8>, OutOfMemory> {
@@ -54,9 +82,13 @@ fn joined(alloc: Global, lines: &[&'static str]) -> Result<Vec<u8>, OutOfMemory>
 }
 
 /// Compares what is written of each text with what is written by hand.
-pub fn check_rows<R: Abort + AllocGlobal>(rt: &R, kinds: Kinds, rows: &[Row]) -> Result<(), Fail> {
+pub fn check_rows<R: Abort + AllocGlobal>(
+    rt: &R,
+    telling: Telling,
+    rows: &[Row],
+) -> Result<(), Fail> {
     for (text, lines) in rows {
-        let written = text_of(rt.alloc(), kinds, text)?;
+        let written = text_of(rt.alloc(), telling, text)?;
         let wanted = joined(rt.alloc(), lines)?;
         assert_eq!(rt; written.as_slice(), wanted.as_slice(), "{text}");
     }

@@ -3,6 +3,7 @@ use Rattle.std.proofs.Common.{◌≡◌, refl, ℕ, zero, suc, ◌+◌, ◌-◌,
 use Rattle.std.specs.List.{find, onto_first, range_with_len, slice_split}
 use Rattle.part_texts.specs.Lines.{is_space}
 use Rattle.part_texts.specs.Parts.{heading_of}
+use Rattle.part_texts.specs.Shares.{is_slash, share_of}
 
 -- more than six words
 pub more_words : (a b c d e f : List ℕ) (text : List ℕ) → heading_of (a ∷ b ∷ c ∷ d ∷ e ∷ f ∷ slice_split is_space text) ≡ None
@@ -17,6 +18,19 @@ more_words a b c d e f (x ∷ text) = by (is_space x)
         (a ∷ b ∷ c ∷ d ∷ e ∷ f ∷ cond test ([] ∷ slice_split is_space text) (onto_first x (slice_split is_space text))) ≡ None
     by true = refl
     by false = by_words (slice_split is_space text)
+
+-- more than two between slashes
+pub more_than_two : (a b : List ℕ) (text : List ℕ) → share_of (a ∷ b ∷ slice_split is_slash text) ≡ None
+more_than_two a b [] = refl
+more_than_two a b (x ∷ text) = by (is_slash x)
+  where
+    by_words : (words : List (List ℕ)) → share_of (a ∷ b ∷ onto_first x words) ≡ None
+    by_words [] = refl
+    by_words (w ∷ words) = refl
+
+    by : (test : Bool) → share_of (a ∷ b ∷ cond test ([] ∷ slice_split is_slash text) (onto_first x (slice_split is_slash text))) ≡ None
+    by true = refl
+    by false = by_words (slice_split is_slash text)
 
 pub find_more : (p : ℕ → Bool) (first count : ℕ) → 0 < count → p first ≡ false
     → find p (range_with_len first count) ≡ find p (range_with_len (first + 1) (count - 1))

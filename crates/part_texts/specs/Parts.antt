@@ -2,13 +2,10 @@
 use Rattle.std.specs.Prelude.{ℕ, ◌++◌, Bool, true, false, List, [], ◌∷◌, Option, Some, None, Result, Ok, Err, nat_le, ◌&&◌}
 use Rattle.std.specs.Prelude.{bytes_eq, codes, decimal, if◌then◌else◌}
 use Rattle.std.specs.List.{slice_split}
+use Rattle.part_texts.specs.Shares.{most_parts}
 use Rattle.part_texts.specs.Lines.{Line, is_line_feed, is_space, read_line, read_number}
 use Rattle.part_texts.specs.declared.fault.PartFault.{PartFault}
 use Rattle.part_texts.specs.declared.fault.PartFault.TheVariants.{CutShort, NoPart}
-
--- how many parts a report may have
-abbrev pub most_parts : ℕ
-most_parts = 4096
 
 -- `part K of N of DIGEST`
 pub record Heading : Type 0 where

@@ -5,6 +5,7 @@ ghost use Rattle.part_texts.specs.Lines.{kind_of, read_line, read_number};
 ghost use Rattle.part_texts.specs.Merges.{merged};
 ghost use Rattle.part_texts.specs.Orders.{in_order_by};
 ghost use Rattle.part_texts.specs.Parts.{read_heading, read_part};
+ghost use Rattle.part_texts.specs.Shares.{read_share};
 ghost use Rattle.part_texts.specs.declared.fault.MergeFault.TheVariants.{InText, Missing};
 ghost use Rattle.part_texts.specs.declared.fault.PartFault.TheVariants.{CutShort, Double, NoPart, OtherCount, OtherProgram};
 
@@ -82,4 +83,15 @@ pub fn fault_examples()
         ∷ codes "part 2 of 2 of 0b\nc\nend 2\n" ∷ []) ≡ Err (InText 1 OtherProgram) }
     ensures other_count { merged (codes "part 1 of 2 of 0a\nc\nend 1\n"
         ∷ codes "part 2 of 3 of 0a\nc\nend 2\n" ∷ []) ≡ Err (InText 1 OtherCount) }
+{}
+
+/// Words that name a part, and words that name none.
+pub fn share_examples()
+    ensures one { read_share (codes "2/3") ≡ Some (2, 3) }
+    ensures zeros { read_share (codes "02/0003") ≡ Some (2, 3) }
+    ensures below { read_share (codes "0/3") ≡ None }
+    ensures above { read_share (codes "4/3") ≡ None }
+    ensures many { read_share (codes "1/4097") ≡ None }
+    ensures alone { read_share (codes "2") ≡ None }
+    ensures three { read_share (codes "1/2/3") ≡ None }
 {}

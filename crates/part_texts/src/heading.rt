@@ -1,7 +1,8 @@
 // The first line of a part.
 
 ghost use Rattle.std.specs.Prelude.{◌≡◌, ◌∷◌, []};
-ghost use Rattle.part_texts.specs.Parts.{heading_from, heading_of, most_parts, read_heading};
+ghost use Rattle.part_texts.specs.Parts.{heading_from, heading_of, read_heading};
+ghost use Rattle.part_texts.specs.Shares.{most_parts};
 ghost use Rattle.part_texts.specs.Lines.{read_number};
 ghost use Rattle.part_texts.specs.code.ReadParts.{some_heading};
 

@@ -9,8 +9,11 @@ mod line;
 mod merges;
 mod number;
 mod read;
+mod share;
+mod shares;
 
 pub use fault::{MergeFault, PartFault};
 pub use heading::MOST_PARTS;
 pub use merges::merge;
+pub use share::Share;
 pub use std::alloc::AllocError as OutOfMemory;

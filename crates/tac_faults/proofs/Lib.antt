@@ -1,5 +1,3 @@
-pub mod HintLists
-pub mod HintTexts
 pub mod Lists
 pub mod NameLists
 pub mod TextFaults

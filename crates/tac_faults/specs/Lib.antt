@@ -1,4 +1,3 @@
-pub mod Examples
 pub mod Hints
 pub mod Laws
 pub mod Listed

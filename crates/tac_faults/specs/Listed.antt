@@ -1,9 +1,8 @@
 -- All that is wrong with a text, as far as it is told.
 use Rattle.std.specs.Prelude.{ℕ, zero, Bool, true, false, ◌&&◌, ◌||◌, ◌==◌, List, [], ◌∷◌, ◌++◌, map, take, drop, length, Option, Some, None, nat_lt}
 use Rattle.std.specs.Prelude.{codes, if◌then◌else◌}
-use Rattle.tac_faults.specs.Hints.Bytes.{is_not_ascii}
 use Rattle.tac_faults.specs.Hints.Near.{is_near, is_same_but_for_capitals}
-use Rattle.tac_faults.specs.Hints.Places.{name_at, run_stop, stands}
+use Rattle.tac_faults.specs.Hints.Places.{is_not_ascii, name_at, run_stop, stands}
 use Rattle.tac_lines.specs.Forms.{key}
 use Rattle.tac_lines.specs.LineFaults.{at, first_by_place, inside_after, row_faults}
 use Rattle.tac_lines.specs.Text.{lines}

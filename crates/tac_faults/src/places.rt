@@ -2,9 +2,8 @@
 
 ghost use Rattle.std.specs.Prelude.{◌≡◌, ◌+◌, ◌<◌, ◌≤◌, ◌^◌, ℕ, List, length, slice_index, nat_lt};
 ghost use Rattle.std.specs.List.{prefix_len};
-ghost use Rattle.tac_faults.specs.Hints.Bytes.{is_not_ascii as beyond_ascii};
-ghost use Rattle.tac_faults.specs.Hints.Places.{bytes_at as token_bytes, count_before as tokens_before, name_at as token_name, run_stop};
-ghost use Rattle.tac_faults.specs.Hints.Places.{stands as stands_in};
+ghost use Rattle.tac_faults.specs.Hints.Places.{bytes_at as token_bytes, count_before as tokens_before, is_not_ascii as beyond_ascii};
+ghost use Rattle.tac_faults.specs.Hints.Places.{name_at as token_name, run_stop, stands as stands_in};
 ghost use Rattle.tac_lines.specs.code.Views.{slot_view, tokens_view};
 ghost use Rattle.tac_program.specs.Spelling.{is_digit as digit, is_name_byte as name_byte};
 

@@ -3,7 +3,8 @@
 use crate::slips::{BYTES, LINES, NAMES, Told};
 use std::alloc::Global;
 use std::process::Abort;
-use tac_faults::{hint, refusals};
+use tac_faults::refusals;
+use tac_hints::hint;
 use tac_lines::OutOfMemory;
 use tac_program::Limits;
 

@@ -3,7 +3,8 @@
 use std::alloc::Global;
 use std::process::Abort;
 use std::test::Fail;
-use tac_faults::{Hint, MOST_TOLD, hint, refusals};
+use tac_faults::{Hint, MOST_TOLD, refusals};
+use tac_hints::hint;
 use tac_lines::{OutOfMemory, Refusal, RefusalKind};
 use tac_program::Limits;
 

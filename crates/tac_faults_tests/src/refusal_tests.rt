@@ -3,7 +3,8 @@
 use std::alloc::Global;
 use std::process::Abort;
 use std::test::Fail;
-use tac_faults::{Bytes, Hint, hint, refusals};
+use tac_faults::{Bytes, Hint, refusals};
+use tac_hints::hint;
 use tac_lines::{OutOfMemory, Refusal};
 use tac_program::Limits;
 use test_support::again;

@@ -112,23 +112,33 @@ fn section_labels(alloc: Global, count: u32, lines: Lines<'_>) -> Result<Vec<Lab
     Ok(labels)
 }
 
-/// A section's procedure, of this number, over tables of names; `labels` are its own. What the buffer
-/// holds is lost.
+/// A section, which procedure it is, and its labels.
+#[derive(Drop)]
+struct Numbered<'a> {
+    number: u32,
+    section: Section<'a>,
+    labels: NameTable,
+}
+
+/// A section's procedure over tables of names. What the buffer holds is lost.
 fn procedure(
     alloc: Global,
     tables: Tables<'_>,
-    number: u32,
-    section: Section<'_>,
-    labels: NameTable,
+    own: Numbered<'_>,
     cursor: &mut LineCursor<'_>,
     progress: &mut Progress,
 ) -> Result<Proc, OutOfMemory>
     requires text { tables.variables.text.now ≡ cursor.old }
-    requires labels { labels ≡ names_in (labels_in (section_view cursor.old section)) }
+    requires labels { own.labels ≡ names_in (labels_in (section_view cursor.old own.section)) }
     ensures procedure { IfOk result (λ p.
-        p ≡ procedure_of cursor.old tables.entry.procedures.now tables.entry.variables.table.now number (section_view cursor.old section.entry)) }
+        p ≡ procedure_of cursor.old tables.entry.procedures.now tables.entry.variables.table.now own.entry.number (section_view cursor.old own.entry.section)) }
     ensures text { cursor.new ≡ cursor.old }
 {
+    let Numbered {
+        number,
+        section,
+        labels,
+    } = own;
     let places = section_labels(alloc, labels.len(), section.lines)?;
     let names = Names {
         procedures: tables.procedures,
@@ -160,15 +170,12 @@ fn procedures(
     let mut labels = labels.into_iter();
     for section in sections {
         let number = counted(procs.len())?;
-        procs.push(procedure(
-            alloc,
-            tables,
+        let own = Numbered {
             number,
-            *section,
-            labels.next().unwrap(),
-            &mut cursor,
-            &mut progress,
-        )?)?;
+            section: *section,
+            labels: labels.next().unwrap(),
+        };
+        procs.push(procedure(alloc, tables, own, &mut cursor, &mut progress)?)?;
     }
     Ok(procs)
 }

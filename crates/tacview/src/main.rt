@@ -1,13 +1,15 @@
 //! `tacview`: reads a program of three-address code, and writes its flow graph with what holds at its points, for Graphviz or as
-//! lines of JSON, or the report on it.
+//! lines of JSON, or the report on it, whole or a part of it. It merges such parts too.
 #![tactic(auto)]
 
-use flow_runs::{tell_line, tell_no_words, tell_words};
+use flow_runs::{fault_line, push_text, tell_line, tell_no_words, tell_words};
 use std::process::ExitCode;
 use std::thread::Threads;
-use std::{env, io};
-use text_pieces::{FromRead, ToWrite};
-use view_commands::{Options, Progress, Terminal, line_of, run};
+use std::{env, fs, io};
+use text_pieces::{Bytes, FromRead, ToWrite};
+use view_commands::{
+    Options, Progress, Terminal, file_line, files_to_merge, line_of, merge_files, run,
+};
 
 /// The program's name, which its lines begin with.
 const NAME: &str = "tacview";
@@ -30,9 +32,40 @@ fn run_by<R: Threads + Sync>(rt: &HostRuntime, threads: &R, options: &Options) -
     }
 }
 
+// Writes the report that files with its parts make.
+fn merge(rt: &HostRuntime, names: &[&str]) -> io::Result<ExitCode> {
+    let mut texts = Vec::new(rt.alloc());
+    for name in names {
+        match fs::read(rt, *name) {
+            Ok(text) => texts.push(text)?,
+            Err(error) if error.kind() == io::ErrorKind::OutOfMemory => return Err(error),
+            Err(_) => return Ok(tell_line(rt, NAME, file_line(rt.alloc(), name, b"read fault"))),
+        }
+    }
+    let read: Vec<&[u8]> = texts
+        .iter()
+        .map(|text| text.as_slice())
+        .collect(rt.alloc())?;
+    match merge_files(rt.alloc(), names, &read)? {
+        Ok(report) => Ok(write_report(rt, &report)),
+        Err(line) => Ok(tell_line(rt, NAME, Ok(line))),
+    }
+}
+
+fn write_report(rt: &HostRuntime, report: &[u8]) -> ExitCode {
+    let mut sink = ToWrite::new(rt.stdout());
+    match push_text(rt.alloc(), &Bytes(report), &mut sink) {
+        Ok(()) => ExitCode::SUCCESS,
+        Err(fault) => tell_line(rt, NAME, fault_line(rt.alloc(), NAME, &fault)),
+    }
+}
+
 fn run_words<R: Threads + Sync>(rt: &HostRuntime, threads: &R) -> io::Result<ExitCode> {
     let owned: Vec<String> = env::args(rt)?.collect(rt.alloc())?;
     let words: Vec<&str> = owned.iter().map(|word| word.as_str()).collect(rt.alloc())?;
+    if let Some(names) = files_to_merge(&words) {
+        return merge(rt, names);
+    }
     match Options::from_words(rt.alloc(), &words) {
         Ok(options) => Ok(run_by(rt, threads, &options)),
         Err(error) => Ok(tell_words(rt, NAME, &error)),

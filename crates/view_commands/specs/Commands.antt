@@ -1,6 +1,6 @@
 -- The command line, and the options that its words name.
-use Rattle.std.specs.Prelude.{◌≡◌, ℕ, List, [], ◌∷◌, Bool, Option, Some, Result, IfOk, IfErr, codes, true, is_some, option_and_then, option_map}
-use Rattle.std.specs.Prelude.{bytes_eq, false}
+use Rattle.std.specs.Prelude.{◌≡◌, ℕ, List, [], ◌∷◌, Bool, Option, None, Some, Result, IfOk, IfErr, codes, true, is_some, option_and_then, option_map}
+use Rattle.std.specs.Prelude.{◌&&◌, ◌||◌, bytes_eq, false}
 use Rattle.std.specs.Borrow.{Bor}
 use Rattle.std.specs.Option.{option_map_or}
 use Rattle.std.specs.String.{string_bytes}
@@ -11,7 +11,9 @@ use Rattle.clap.specs.declared.builder.possible_value.PossibleValue.{PossibleVal
 use Rattle.clap.specs.declared.error.Error.{Error}
 use Rattle.clap.specs.declared.error.kind.ErrorKind.TheVariants.{ArgumentConflict, InvalidValue, OutOfMemory}
 use Rattle.flow_runs.specs.Words.{AreKindsOf, NamesNumber, kind_rule, number_rule}
-use Rattle.view_commands.specs.Kinds.{facts_queried, facts_named, format_named, formats, limits_named, sizes, with_because, with_paths}
+use Rattle.flow_views.specs.declared.view.Look.{Look}
+use Rattle.part_texts.specs.Shares.{read_share, some_share}
+use Rattle.view_commands.specs.Kinds.{facts_queried, facts_named, format_named, formats, limits_named, sizes, with_part, with_paths, with_picture}
 use Rattle.view_commands.specs.Views.{Request}
 use Rattle.view_commands.specs.declared.options.Format.{Format}
 use Rattle.view_commands.specs.declared.options.Options.{Options}
@@ -24,37 +26,58 @@ text_rule name = record (new_rule name) { long = Some name; value_names = 1; act
 abbrev pub flag_rule : Text → Rule
 flag_rule name = record (new_rule name) { long = Some name; action = Some SetTrue }
 
--- `tacview [--format KIND] [--facts LIST] [--procedure NAME] [--paths] [--because PLACE]`, and behind them `[--limits SIZE] [--workers N]
--- [--cut N]`
+-- `tacview [--format KIND] [--facts LIST] [--hide-entry] [--facts-behind] [--procedure NAME] [--paths]`, and behind them `[--because PLACE]
+-- [--part K/N] [--limits SIZE] [--workers N] [--cut N]`
 abbrev pub form_command : Bor (List PossibleValue) → App
 form_command values =
     with_rule (with_rule (new_app (codes "tacview")) (kind_rule (codes "format") (codes "dot") values)) (text_rule (codes "facts"))
 
-abbrev pub view_command : Bor (List PossibleValue) → App
-view_command values = with_rule (with_rule (form_command values) (text_rule (codes "procedure"))) (flag_rule (codes "paths"))
+abbrev pub look_command : Bor (List PossibleValue) → App
+look_command values = with_rule (with_rule (form_command values) (flag_rule (codes "hide-entry"))) (flag_rule (codes "facts-behind"))
 
-abbrev pub marking_command : Bor (List PossibleValue) → Bor (List PossibleValue) → App
-marking_command values bounds =
-    with_rule (with_rule (view_command values) (text_rule (codes "because"))) (kind_rule (codes "limits") (codes "standard") bounds)
+abbrev pub view_command : Bor (List PossibleValue) → App
+view_command values = with_rule (with_rule (look_command values) (text_rule (codes "procedure"))) (flag_rule (codes "paths"))
+
+abbrev pub part_command : Bor (List PossibleValue) → App
+part_command values = with_rule (with_rule (view_command values) (text_rule (codes "because"))) (text_rule (codes "part"))
 
 abbrev pub tacview_command : Bor (List PossibleValue) → Bor (List PossibleValue) → App
 tacview_command values bounds =
-    with_rule (with_rule (marking_command values bounds) (number_rule (codes "workers") (codes "1") 64))
-    (number_rule (codes "cut") (codes "64") 4096)
+    with_rule (with_rule (with_rule (part_command values) (kind_rule (codes "limits") (codes "standard") bounds))
+    (number_rule (codes "workers") (codes "1") 64)) (number_rule (codes "cut") (codes "64") 4096)
+
+-- Whether an option without a value is there.
+abbrev pub has_flag : Text → List Row → Bool
+has_flag name rows = option_map_or (λ word. bytes_eq word (codes "true")) (first_of name rows) false
 
 -- Whether paths are asked for.
 abbrev pub has_paths : List Row → Bool
-has_paths rows = option_map_or (λ word. bytes_eq word (codes "true")) (first_of (codes "paths") rows) false
+has_paths rows = has_flag (codes "paths") rows
 
--- Whether a path is to be marked.
-abbrev pub has_because : List Row → Bool
-has_because rows = is_some (first_of (codes "because") rows)
+-- How a picture is to look.
+abbrev pub look_queried : List Row → Look
+look_queried rows = record { hides_entry = has_flag (codes "hide-entry") rows; behind = has_flag (codes "facts-behind") rows }
 
--- The format that is asked for, with paths or without; None where it has none.
-abbrev pub format_queried : List Row → Option Format
-format_queried rows =
-    option_and_then (with_because (has_because rows))
+-- Whether something is asked for that pictures alone have: a path that is marked, or a look of their own.
+abbrev pub has_look : Look → Bool
+has_look look = look.hides_entry || look.behind
+
+abbrev pub has_picture : List Row → Bool
+has_picture rows = is_some (first_of (codes "because") rows) || has_look (look_queried rows)
+
+-- Whether a part is asked for.
+abbrev pub has_part : List Row → Bool
+has_part rows = is_some (first_of (codes "part") rows)
+
+-- The format that is asked for, with paths or without, with what pictures alone have or without; None where it has none.
+abbrev pub shown_format : List Row → Option Format
+shown_format rows =
+    option_and_then (with_picture (has_picture rows))
     (option_and_then (with_paths (has_paths rows)) (option_and_then format_named (first_of (codes "format") rows)))
+
+-- The format that is asked for, whole or a part of it; None where it has none.
+abbrev pub format_queried : List Row → Option Format
+format_queried rows = option_and_then (with_part (has_part rows)) (shown_format rows)
 
 -- The name of the procedure that is asked for.
 abbrev pub name_queried : Options → Option (List ℕ)
@@ -64,6 +87,14 @@ name_queried options = option_map string_bytes options.asked.procedure
 abbrev pub because_queried : Options → Option (List ℕ)
 because_queried options = option_map string_bytes options.asked.because
 
+-- How its picture looks.
+abbrev pub look_of : Options → Look
+look_of options = options.asked.look
+
+-- The part that is asked for.
+abbrev pub share_queried : Options → Option (ℕ × ℕ)
+share_queried options = some_share options.asked.share
+
 -- What options ask for of a program.
 abbrev pub request_of : Options → Request
 request_of options = record {
@@ -71,7 +102,14 @@ request_of options = record {
   facts = options.facts;
   name = name_queried options;
   because = because_queried options;
+  share = share_queried options;
+  look = look_of options;
 }
+
+-- The part that words name, or the whole where there are none; None where they name no part.
+abbrev pub known_share : Option Text → Option (Option (ℕ × ℕ))
+known_share None = Some None
+known_share (Some words) = option_map Some (read_share words)
 
 -- The matches name these options.
 pub record NamesOptions (rows : List Row) (options : Options) : Type 0 where
@@ -79,6 +117,8 @@ pub record NamesOptions (rows : List Row) (options : Options) : Type 0 where
   pub named_facts : facts_queried options.format (first_of (codes "facts") rows) ≡ Some options.facts
   pub named_procedure : name_queried options ≡ first_of (codes "procedure") rows
   pub named_because : because_queried options ≡ first_of (codes "because") rows
+  pub named_share : known_share (first_of (codes "part") rows) ≡ Some (share_queried options)
+  pub named_look : look_of options ≡ look_queried rows
   pub named_limits : option_and_then limits_named (first_of (codes "limits") rows) ≡ Some options.limits
   pub named_workers : NamesNumber rows (codes "workers") options.workers
   pub named_cut : NamesNumber rows (codes "cut") options.cut
@@ -87,14 +127,19 @@ pub record NamesOptions (rows : List Row) (options : Options) : Type 0 where
 abbrev pub knows_facts : List Row → Bool
 knows_facts rows = option_map_or (λ list. is_some (facts_named list)) (first_of (codes "facts") rows) true
 
--- The kinds of errors for options that `clap` takes: paths with a format that has none, or the path of a use, and a list that names no facts.
+-- Whether the words for a part, where there are some, name one.
+abbrev pub knows_share : List Row → Bool
+knows_share rows = is_some (known_share (first_of (codes "part") rows))
+
+-- The kinds of errors for options that `clap` takes: paths with a format that has none, or what pictures alone have, or a part, and a list
+-- that names no facts, or words that name no part.
 abbrev pub kinds_of : Bool → Bool → Kinds
-kinds_of false facts = ArgumentConflict ∷ []
+kinds_of false known = ArgumentConflict ∷ []
 kinds_of true false = InvalidValue ∷ []
 kinds_of true true = []
 
 abbrev pub option_kinds : List Row → Kinds
-option_kinds rows = kinds_of (is_some (format_queried rows)) (knows_facts rows)
+option_kinds rows = kinds_of (is_some (format_queried rows)) (knows_facts rows && knows_share rows)
 
 -- What is answered to the words: the options that the command's matches name, or an error. The
 -- command holds the words of formats and of limits by reference, and where they lie is left open.

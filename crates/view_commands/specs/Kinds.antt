@@ -26,13 +26,21 @@ with_paths true format.Json = Some format.JsonPaths
 with_paths true format.JsonPaths = Some format.JsonPaths
 with_paths true format.Report = None
 
--- The format, where it fits to what is asked for: a path is marked in a picture alone.
-abbrev pub with_because : Bool → Format → Option Format
-with_because false format = Some format
-with_because true format.Dot = Some format.Dot
-with_because true format.Json = None
-with_because true format.JsonPaths = None
-with_because true format.Report = None
+-- The format, where it fits to what is asked for: pictures alone have it.
+abbrev pub with_picture : Bool → Format → Option Format
+with_picture false format = Some format
+with_picture true format.Dot = Some format.Dot
+with_picture true format.Json = None
+with_picture true format.JsonPaths = None
+with_picture true format.Report = None
+
+-- The format, where it fits to what is asked for: a report alone has parts.
+abbrev pub with_part : Bool → Format → Option Format
+with_part false format = Some format
+with_part true format.Dot = None
+with_part true format.Json = None
+with_part true format.JsonPaths = None
+with_part true format.Report = Some format.Report
 
 -- The limits with their words.
 abbrev pub sizes : List (List ℕ × Limits)

@@ -1,12 +1,14 @@
 -- What is shown of a program.
-use Rattle.std.specs.Prelude.{◌≡◌, ℕ, List, Option, None, Some, slice_get}
+use Rattle.std.specs.Prelude.{◌≡◌, ℕ, List, [], Option, None, Some, slice_get}
 use Rattle.tac_program.specs.Programs.{Program}
+use Rattle.flow_parts.specs.Parts.{IsPart, digest_of}
 use Rattle.flow_paths.specs.Paths.{IsJsonWithPaths}
 use Rattle.flow_paths.specs.Pictures.{IsDotWithPath, LacksUse}
 use Rattle.flow_reports.specs.Reports.{IsReport, ListsSafely}
 use Rattle.flow_views.specs.Dots.{IsDot}
 use Rattle.flow_views.specs.Json.{IsJson}
 use Rattle.flow_views.specs.declared.view.Chosen.{Chosen}
+use Rattle.flow_views.specs.declared.view.Look.{Look}
 use Rattle.flow_views.specs.declared.view.View.{View}
 use Rattle.view_commands.specs.declared.options.Format.{Format}
 use Rattle.view_commands.specs.declared.options.Format.TheVariants as format
@@ -30,25 +32,46 @@ abbrev pub IsPicture : Option (List ℕ) → Program → View → List ℕ → T
 IsPicture None program view out = IsDot program view out
 IsPicture (Some place) program view out = IsDotWithPath program view place out
 
--- The text of each format. A report is of the whole program whatever the view, and its dead assignments are safe to delete.
-abbrev pub IsText : Format → Option (List ℕ) → Program → View → List ℕ → Type 0
-IsText format.Dot because program view out = IsPicture because program view out
-IsText format.Json because program view out = IsJson program view out
-IsText format.JsonPaths because program view out = IsJsonWithPaths program view out
-IsText format.Report because program view out = IsReport program out × ListsSafely program out
+-- The report, whose dead assignments are safe to delete, or a part of it: its number, and of how many. A part names the program's digest.
+abbrev pub IsReportOrPart : Option (ℕ × ℕ) → (digest : List ℕ) → Program → List ℕ → Type 0
+IsReportOrPart None digest program out = IsReport program out × ListsSafely program out
+IsReportOrPart (Some share) digest program out = IsPart program digest share.1 share.0 out
 
--- What is asked for of a program: which text, with the facts of which analyses, of which procedure, and with the path of which use.
+-- What is asked for of a program: which text, with the facts of which analyses, of which procedure, with the path of which use, which part
+-- of a report, and how a picture looks.
 pub record Request : Type 0 where
   pub format : Format
   pub facts : Chosen
   pub name : Option (List ℕ)
   pub because : Option (List ℕ)
+  pub share : Option (ℕ × ℕ)
+  pub look : Look
+
+-- The text of each format. A report is of the whole program whatever the view.
+abbrev pub IsText : Format → Request → (digest : List ℕ) → Program → View → List ℕ → Type 0
+IsText format.Dot request digest program view out = IsPicture request.because program view out
+IsText format.Json request digest program view out = IsJson program view out
+IsText format.JsonPaths request digest program view out = IsJsonWithPaths program view out
+IsText format.Report request digest program view out = IsReportOrPart request.share digest program out
+
+-- what is shown of these procedures
+abbrev pub view_for : Request → Option ℕ → View
+view_for request procedure = record { facts = request.facts; procedure = procedure; look = request.look }
+
+-- The digest of the text that was read, which parts alone name.
+abbrev pub digest_for : Option (ℕ × ℕ) → List ℕ → List ℕ
+digest_for None text = []
+digest_for (Some share) text = digest_of text
 
 -- What is written of a program: the text of this format, with these facts, of the procedures that are asked for.
-pub record IsShown (request : Request) (program : Program) (out : List ℕ) : Type 0 where
+pub record IsShownBy (request : Request) (digest : List ℕ) (program : Program) (out : List ℕ) : Type 0 where
   pub procedure : Option ℕ
   pub queried : ShowsProcedure program request.name procedure
-  pub text : IsText request.format request.because program (record { facts = request.facts; procedure = procedure }) out
+  pub text : IsText request.format request digest program (view_for request procedure) out
+
+-- the same of a program that was read from a text
+abbrev pub IsShown : Request → List ℕ → Program → List ℕ → Type 0
+IsShown request text = IsShownBy request (digest_for request.share text)
 
 -- The path of a use is asked for, by a text that names none of what is shown.
 abbrev pub LacksNamed : Option (List ℕ) → Program → View → Type 0
@@ -58,4 +81,4 @@ LacksNamed (Some place) program view = LacksUse program view place
 pub record LacksRemark (request : Request) (program : Program) : Type 0 where
   pub procedure : Option ℕ
   pub queried : ShowsProcedure program request.name procedure
-  pub none : LacksNamed request.because program (record { facts = request.facts; procedure = procedure })
+  pub none : LacksNamed request.because program (view_for request procedure)

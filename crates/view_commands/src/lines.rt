@@ -32,7 +32,8 @@ fn push_escaped_byte(text: &mut Vec<u8>, byte: u8) -> Result<(), OutOfMemory>
     }
 }
 
-fn push_escaped(text: &mut Vec<u8>, bytes: &[u8]) -> Result<(), OutOfMemory>
+/// Puts bytes behind what is there, each as itself or as what stands for it.
+pub(crate) fn push_escaped(text: &mut Vec<u8>, bytes: &[u8]) -> Result<(), OutOfMemory>
     ensures { OnOk result (text.new.items ≡ text.old.items ++ escaped bytes.now) }
 {
     for byte in bytes {

@@ -4,7 +4,8 @@ ghost use Rattle.std.specs.Prelude.{◌≡◌, ◌≤◌, ◌↔◌, IsSome, IfS
 ghost use Rattle.slice_board.specs.Ranges.{AreInRange};
 
 use flow_team::are_in_range;
-use flow_views::Chosen;
+use flow_views::{Chosen, Look};
+use part_texts::Share;
 use tac_program::Limits;
 
 /// Which text is written.
@@ -16,17 +17,21 @@ pub enum Format {
     Json,
     /// Lines of JSON, with a path for each variable that may be used before it is set.
     JsonPaths,
-    /// The report on the whole program.
+    /// The report on the whole program, or a part of it.
     Report,
 }
 
-/// What is asked for by its name.
+/// What is asked for by its name or its number, and how a picture looks.
 #[derive(Drop)]
 pub struct Asked {
     /// The name of the one procedure that is shown; without it all are. A report is of all anyway.
     pub procedure: Option<String>,
     /// The place of the use whose path a picture marks, `LINE` or `LINE:NAME`; without it none is. Other texts are the same for all of these.
     pub because: Option<String>,
+    /// The part of a report that is written; without it the whole report is. Other texts are the same for all of these.
+    pub share: Option<Share>,
+    /// How a picture shows facts. Other texts are the same for all of these.
+    pub look: Look,
 }
 
 /// What to show, by how many workers, in slices of how many bits.
@@ -42,7 +47,7 @@ pub struct Options {
     pub format: Format,
     /// Which analyses' facts stand in it. A report is the same for all of them.
     pub facts: Chosen,
-    /// What is asked for by its name.
+    /// What is asked for by its name or its number, and how a picture looks.
     pub asked: Asked,
     pub ghost in_range: { AreInRange workers cut },
 }

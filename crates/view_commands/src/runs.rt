@@ -4,7 +4,7 @@ ghost use Rattle.std.specs.Prelude.{◌≡◌, ◌<◌, ◌+◌, ◌-◌, ◌^�
 ghost use Rattle.std.specs.Io.KnownBytes.{Keeps};
 ghost use Rattle.flow_runs.specs.Faults.{UnlessWrite, WhereNoGraph, WhereNoProcedure, WhereNoRemark};
 ghost use Rattle.flow_runs.specs.Faults.{WhereRefused, WhereWrite, read_faults_in, write_faults_in};
-ghost use Rattle.flow_runs.specs.Runs.{PullsLacking, PullsOverLimit, PullsRefused, WritesAnswer, WritesBeginning};
+ghost use Rattle.flow_runs.specs.Runs.{PullsLacking, PullsOverLimit, PullsRefused, WritesAnswerOf, WritesBeginningOf};
 ghost use Rattle.view_commands.specs.Commands.{name_queried, request_of};
 ghost use Rattle.view_commands.specs.Views.{IsShown, LacksProcedure, LacksRemark};
 
@@ -17,7 +17,7 @@ use std::thread::Threads;
 use text_pieces::{Sink, Source};
 
 /// Pulls the text until the source has ended or one byte more is in hand than the options' limits allow, makes the text of the
-/// options' format of it, with the facts and of the procedures that they name, pushes that and nothing else, in pieces of 65,536
+/// options' format of it, with the facts and of the procedures that they name, or the part of a report that they do, pushes that and nothing else, in pieces of 65,536
 /// bytes, and flushes. All that it needs memory for it has before the first push. The facts are found by the options' workers, in
 /// slices of their width, which the gate is told of; what is written is the same for all of these.
 ///
@@ -40,7 +40,7 @@ pub fn run<R: Threads + Sync, S: Source, K: Sink>(
     requires running { S.ended source.old ≡ false }
     requires source_below { S.faults source.old < 2 ^ 32 - 1 }
     requires sink_below { K.faults sink.old < 2 ^ 32 - 1 }
-    ensures written { OnOk result (WritesAnswer options.now.limits true (IsShown (request_of options.now))
+    ensures written { OnOk result (WritesAnswerOf options.now.limits true (IsShown (request_of options.now))
         (S.remaining source.old) (S.remaining source.new) (S.ended source.new) (K.contents sink.old) (K.contents sink.new)) }
     ensures flushed { OnOk result (K.flushed sink.new ≡ true) }
     ensures refused { IfErr result (WhereRefused (PullsRefused options.now.limits
@@ -51,7 +51,7 @@ pub fn run<R: Threads + Sync, S: Source, K: Sink>(
         (S.remaining source.old) (S.remaining source.new) (S.ended source.new))) }
     ensures no_remark { IfErr result (WhereNoRemark (PullsLacking options.now.limits (LacksRemark (request_of options.now))
         (S.remaining source.old) (S.remaining source.new) (S.ended source.new))) }
-    ensures beginning { IfErr result (WhereWrite (WritesBeginning options.now.limits true
+    ensures beginning { IfErr result (WhereWrite (WritesBeginningOf options.now.limits true
         (IsShown (request_of options.now))
         (S.remaining source.old) (S.remaining source.new) (S.ended source.new) (K.contents sink.old) (K.contents sink.new))) }
     ensures unwritten { IfErr result (UnlessWrite (Keeps (K.contents sink.old) (K.contents sink.new))) }

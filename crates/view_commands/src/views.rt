@@ -11,17 +11,21 @@ ghost use Rattle.flow_reports.specs.code.Reported.{TellReport};
 ghost use Rattle.flow_views.specs.Dots.{IsDot};
 ghost use Rattle.flow_views.specs.Json.{IsJson};
 ghost use Rattle.flow_views.specs.ViewTables.{AreViewTables};
-ghost use Rattle.view_commands.specs.Commands.{because_queried, name_queried, request_of};
-ghost use Rattle.view_commands.specs.Views.{HasProcedure, IsPicture, IsShown, IsText, LacksNamed, LacksProcedure, LacksRemark, ShowsProcedure};
+ghost use Rattle.flow_parts.specs.Parts.{IsPart};
+ghost use Rattle.view_commands.specs.Commands.{because_queried, name_queried, request_of, share_queried};
+ghost use Rattle.view_commands.specs.Views.{HasProcedure, IsPicture, IsReportOrPart, IsShownBy, IsText, LacksNamed, LacksProcedure};
+ghost use Rattle.view_commands.specs.Views.{LacksRemark, ShowsProcedure, digest_for, view_for};
 
 use crate::options::{Format, Options};
 use crate::progress::Progress;
 use flow_graph::Graph;
+use flow_parts::{PartText, digest};
 use flow_paths::{JsonPathsText, PathDotText};
 use flow_reports::ReportAnswers;
 use flow_runs::{Fault, OutOfMemory, Output, graph_of, push_report, push_text};
 use flow_team::Team;
 use flow_views::{DotText, JsonText, View, ViewTables};
+use part_texts::Share;
 use std::alloc::Global;
 use std::thread::Threads;
 use tac_program::{Limits, Program};
@@ -41,22 +45,25 @@ fn procedure_named(program: &Program, name: &[u8]) -> Option<u32>
 
 // What the options ask for of this program.
 fn view_of(program: &Program, options: &Options) -> Result<View, Fault>
-    ensures facts { IfOk result (λ view. view.facts ≡ options.now.facts) }
+    ensures view { IfOk result (λ view. view ≡ view_for (request_of options.now) view.procedure) }
     ensures procedure { IfOk result (λ view. ShowsProcedure program.now (name_queried options.now) view.procedure) }
     ensures there { IfOk result (λ view. IfSome view.procedure (λ number. number < length program.now.procedure_names)) }
     ensures lacks { IfErr result (λ fault. (fault ≡ Fault.NoProcedure) × LacksProcedure (name_queried options.now) program.now) }
 {
     let facts = options.facts;
+    let look = options.asked.look;
     let Some(name) = &options.asked.procedure else {
         return Ok(View {
             facts,
             procedure: None,
+            look,
         });
     };
     match procedure_named(program, name.as_bytes()) {
         Some(number) => Ok(View {
             facts,
             procedure: Some(number),
+            look,
         }),
         None => Err(Fault::NoProcedure),
     }
@@ -188,29 +195,80 @@ fn push_json_paths<R: Threads + Sync, K: Sink>(
     push_text(alloc, &text, sink)
 }
 
-// Writes what the options ask for of a graph. A report wants no tables.
-fn view_of_graph<R: Threads + Sync, K: Sink>(
+// Writes a part of the report.
+fn push_part<R: Threads + Sync, K: Sink>(
     team: &Team<'_, R, Progress>,
     alloc: Global,
     graph: &Graph<'_>,
-    view: View,
+    digest: &[u8],
+    share: Share,
+    sink: &mut K,
+) -> Result<(), Fault>
+    requires threads { IsSync R.row }
+    requires below { K.faults sink.old < 2 ^ 32 - 1 }
+    ensures delivers { Delivers (IsPart graph.now digest.now share.count share.part) (K.contents sink.old) (K.contents sink.new) result }
+    ensures flushed { OnOk result (K.flushed sink.new ≡ true) }
+    ensures fault { IfErr result (OfProgram (λ _. ⊥) ⊥ ⊥) }
+    ensures faults { K.faults sink.new ≡ K.faults sink.old + write_faults_in result }
+{
+    let answers = ReportAnswers::of(team, alloc, graph)?;
+    let text = PartText::of(alloc, graph, &answers, digest, share.count, share.part)?;
+    push_text(alloc, &text, sink)
+}
+
+// Writes the report, or the part of it that is asked for.
+fn push_report_or_part<R: Threads + Sync, K: Sink>(
+    team: &Team<'_, R, Progress>,
+    alloc: Global,
+    graph: &Graph<'_>,
+    digest: &[u8],
     options: &Options,
     sink: &mut K,
 ) -> Result<(), Fault>
     requires threads { IsSync R.row }
     requires below { K.faults sink.old < 2 ^ 32 - 1 }
-    requires there { IfSome view.procedure (λ number. number < length graph.now.procedure_names) }
-    ensures delivers { Delivers (IsText options.now.format (because_queried options.now) graph.now view) (K.contents sink.old) (K.contents sink.new)
-        result }
+    ensures delivers { Delivers (IsReportOrPart (share_queried options.now) digest.now graph.now) (K.contents sink.old) (K.contents sink.new) result }
     ensures flushed { OnOk result (K.flushed sink.new ≡ true) }
-    ensures fault { IfErr result (OfProgram (λ _. ⊥) ⊥ (LacksNamed (because_queried options.now) graph.now view)) }
+    ensures fault { IfErr result (OfProgram (λ _. ⊥) ⊥ ⊥) }
     ensures faults { K.faults sink.new ≡ K.faults sink.old + write_faults_in result }
 {
+    match options.asked.share {
+        Some(share) => push_part(team, alloc, graph, digest, share, sink),
+        None => push_report(team, alloc, graph, sink),
+    }
+}
+
+/// What is shown of a program, and its digest where a part names it.
+#[derive(Clone, Copy)]
+struct Shown<'a> {
+    view: View,
+    digest: &'a [u8],
+}
+
+// Writes what the options ask for of a graph. A report wants no tables.
+fn view_of_graph<R: Threads + Sync, K: Sink>(
+    team: &Team<'_, R, Progress>,
+    alloc: Global,
+    graph: &Graph<'_>,
+    shown: Shown<'_>,
+    options: &Options,
+    sink: &mut K,
+) -> Result<(), Fault>
+    requires threads { IsSync R.row }
+    requires below { K.faults sink.old < 2 ^ 32 - 1 }
+    requires there { IfSome shown.view.procedure (λ number. number < length graph.now.procedure_names) }
+    ensures delivers { Delivers (IsText options.now.format (request_of options.now) shown.entry.digest.now graph.now shown.entry.view) (K.contents sink.old)
+        (K.contents sink.new) result }
+    ensures flushed { OnOk result (K.flushed sink.new ≡ true) }
+    ensures fault { IfErr result (OfProgram (λ _. ⊥) ⊥ (LacksNamed (because_queried options.now) graph.now shown.entry.view)) }
+    ensures faults { K.faults sink.new ≡ K.faults sink.old + write_faults_in result }
+{
+    let view = shown.view;
     match options.format {
         Format::Dot => push_picture(team, alloc, graph, view, options, sink),
         Format::Json => push_json(team, alloc, graph, view, sink),
         Format::JsonPaths => push_json_paths(team, alloc, graph, view, sink),
-        Format::Report => push_report(team, alloc, graph, sink),
+        Format::Report => push_report_or_part(team, alloc, graph, shown.digest, options, sink),
     }
 }
 
@@ -226,20 +284,20 @@ fn write_view<R: Threads + Sync, K: Sink>(
     rt: &R,
     alloc: Global,
     program: &Program,
-    view: View,
+    shown: Shown<'_>,
     gated: &GatedOptions<'_>,
     sink: &mut K,
 ) -> Result<(), Fault>
     requires threads { IsSync R.row }
     requires below { K.faults sink.old < 2 ^ 32 - 1 }
-    requires there { IfSome view.procedure (λ number. number < length program.now.procedure_names) }
+    requires there { IfSome shown.view.procedure (λ number. number < length program.now.procedure_names) }
     ensures delivers { Delivers (λ out. HasFewPoints gated.now.options.now.limits program.now
         × HasFewBits gated.now.options.now.limits program.now
-        × IsText gated.now.options.now.format (because_queried gated.now.options.now) program.now view out)
+        × IsText gated.now.options.now.format (request_of gated.now.options.now) shown.entry.digest.now program.now shown.entry.view out)
         (K.contents sink.old) (K.contents sink.new) result }
     ensures flushed { OnOk result (K.flushed sink.new ≡ true) }
     ensures fault { IfErr result (OfProgram (IsOverLimit gated.now.options.now.limits program.now) ⊥
-        (LacksNamed (because_queried gated.now.options.now) program.now view)) }
+        (LacksNamed (because_queried gated.now.options.now) program.now shown.entry.view)) }
     ensures faults { K.faults sink.new ≡ K.faults sink.old + write_faults_in result }
 {
     let options = gated.options;
@@ -250,7 +308,7 @@ fn write_view<R: Threads + Sync, K: Sink>(
         workers: options.workers,
         cut: options.cut,
     };
-    view_of_graph(&team, alloc, &graph, view, options, sink)
+    view_of_graph(&team, alloc, &graph, shown, options, sink)
 }
 
 impl Output for GatedOptions<'_> {
@@ -258,7 +316,9 @@ impl Output for GatedOptions<'_> {
 
     ghost needs_graph = { λ _. true };
 
-    ghost is_output = { λ gated. IsShown (request_of gated.options.now) };
+    ghost kept = { λ gated. digest_for (share_queried gated.options.now) };
+
+    ghost is_output = { λ gated. IsShownBy (request_of gated.options.now) };
 
     ghost lacks = { λ gated. LacksProcedure (name_queried gated.options.now) };
 
@@ -268,14 +328,24 @@ impl Output for GatedOptions<'_> {
         self.options.limits
     }
 
+    // The digest, which parts alone name.
+    fn keep(&self, alloc: Global, text: &[u8]) -> Result<Vec<u8>, OutOfMemory> {
+        match self.options.asked.share {
+            Some(_) => digest(alloc, text),
+            None => Ok(Vec::new(alloc)),
+        }
+    }
+
     fn write<R: Threads + Sync, K: Sink>(
         &self,
         rt: &R,
         alloc: Global,
+        mark: &[u8],
         program: &Program,
         sink: &mut K,
     ) -> Result<(), Fault> {
         let view = view_of(program, self.options)?;
-        write_view(rt, alloc, program, view, self, sink)
+        let shown = Shown { view, digest: mark };
+        write_view(rt, alloc, program, shown, self, sink)
     }
 }

@@ -1,13 +1,16 @@
 // The program's words, read by `clap`.
 
-ghost use Rattle.std.specs.Prelude.{◌≡◌, Some, false, map, codes, is_some, IfOk, IfSome, option_and_then, option_map};
+ghost use Rattle.std.specs.Prelude.{◌≡◌, ◌&&◌, Some, false, map, codes, is_some, IfOk, IfSome, option_and_then, option_map};
 ghost use Rattle.std.specs.String.{string_bytes};
 ghost use Rattle.clap.specs.Words.{FailsBy, app_of, first_of, found_of, rows_of, rule_of};
 ghost use Rattle.flow_runs.specs.Words.{AreKindsOf, kind_rule};
 ghost use Rattle.flow_runs.specs.code.Matches.{HoldsKind};
-ghost use Rattle.view_commands.specs.Commands.{AnswersWords, NamesOptions, flag_rule, format_queried, has_because, has_paths, knows_facts};
-ghost use Rattle.view_commands.specs.Commands.{form_command, marking_command, option_kinds, tacview_command, text_rule, view_command};
-ghost use Rattle.view_commands.specs.Kinds.{with_because, with_paths, facts_queried, format_named, formats as known_formats, limits_named, sizes as known_sizes};
+ghost use Rattle.part_texts.specs.Shares.{some_share};
+ghost use Rattle.view_commands.specs.Commands.{AnswersWords, NamesOptions, flag_rule, format_queried, has_flag, has_look, has_part, has_paths, has_picture};
+ghost use Rattle.view_commands.specs.Commands.{knows_facts, look_command, look_queried};
+ghost use Rattle.view_commands.specs.Commands.{form_command, known_share, knows_share, option_kinds, part_command, shown_format};
+ghost use Rattle.view_commands.specs.Commands.{tacview_command, text_rule, view_command};
+ghost use Rattle.view_commands.specs.Kinds.{with_part, with_paths, with_picture, facts_queried, format_named, formats as known_formats, limits_named, sizes as known_sizes};
 ghost use Rattle.view_commands.specs.code.Matches.{HoldsOptions};
 
 use crate::facts::{facts_by, facts_of};
@@ -16,7 +19,8 @@ use clap::builder::PossibleValue;
 use clap::error::ErrorKind;
 use clap::{Arg, ArgAction, ArgMatches, Command, Error};
 use flow_runs::{OutOfMemory, cut_option, kind_word, number_of, workers_option};
-use flow_views::Chosen;
+use flow_views::{Chosen, Look};
+use part_texts::Share;
 use std::alloc::Global;
 use tac_program::Limits;
 
@@ -24,20 +28,25 @@ const ABOUT: &str =
     "Reads a program of three-address code from standard input, and writes its flow graph to standard output, with what holds at its points, or the \
     report on it.";
 
-const AFTER_HELP: &str = "Examples:\n  tacview < program.tac | dot -Tsvg > program.svg\n  \
+const AFTER_HELP: &str =
+    "As the first word:\n      --merge FILE ..  Write the report that the files make, which are its parts\n\nExamples:\n  tacview < program.tac | dot -Tsvg > program.svg\n  \
     tacview --format json --facts reach,live --procedure main < program.tac\n  \
+    tacview --facts reach --hide-entry --facts-behind < program.tac | dot -Tsvg > sets.svg\n  \
     tacview --because 12:x < program.tac | dot -Tsvg > path.svg\n  \
     tacview --format json --facts none --paths < program.tac\n  \
-    tacview --format report --limits large < program.tac\n\nExit status:\n  \
+    tacview --format report --limits large < program.tac\n  \
+    tacview --format report --part 1/4 < program.tac > part1\n  \
+    tacview --merge part1 part2 part3 part4\n\nExit status:\n  \
     0  it was written, or help was asked for\n  \
     1  the text was refused, the procedure or the remark is not there, or reading, writing or memory failed; standard error has one line on it\n  \
     2  the words were refused";
 
-const NO_FACTS: &str =
-    "the value of '--facts <LIST>' is none, all, or words of reach, live, avail and busy with commas between them";
+const NO_VALUE: &str =
+    "the value of '--facts <LIST>' is none, all, or words of reach, live, avail and busy with commas between them, and that of '--part <K/N>' \
+    the number of a part, from 1 on, a slash, and of how many parts, at most 4096";
 
-const NO_PATHS: &str =
-    "'--paths' goes with '--format json' alone, and '--because' with '--format dot'";
+const NO_FORMAT: &str =
+    "'--paths' goes with '--format json' alone, '--because', '--hide-entry' and '--facts-behind' with '--format dot', and '--part' with '--format report'";
 
 fn format_of(word: &str) -> Option<Format>
     ensures { result ≡ format_named word.now }
@@ -112,6 +121,26 @@ fn facts_option<'a>(alloc: Global) -> Arg<'a>
         )
 }
 
+fn hide_entry_option<'a>(alloc: Global) -> Arg<'a>
+    ensures rule { rule_of result ≡ flag_rule (codes "hide-entry") }
+    ensures own { result.global ≡ false }
+{
+    Arg::new(alloc, "hide-entry")
+        .long("hide-entry")
+        .action(ArgAction::SetTrue)
+        .help("With --format dot: leave the values at the beginning, NAME@entry, out of the facts")
+}
+
+fn facts_behind_option<'a>(alloc: Global) -> Arg<'a>
+    ensures rule { rule_of result ≡ flag_rule (codes "facts-behind") }
+    ensures own { result.global ≡ false }
+{
+    Arg::new(alloc, "facts-behind")
+        .long("facts-behind")
+        .action(ArgAction::SetTrue)
+        .help("With --format dot: facts also behind each statement that is no call")
+}
+
 fn procedure_option<'a>(alloc: Global) -> Arg<'a>
     ensures rule { rule_of result ≡ text_rule (codes "procedure") }
     ensures own { result.global ≡ false }
@@ -148,6 +177,19 @@ fn because_option<'a>(alloc: Global) -> Arg<'a>
         )
 }
 
+fn part_option<'a>(alloc: Global) -> Arg<'a>
+    ensures rule { rule_of result ≡ text_rule (codes "part") }
+    ensures own { result.global ≡ false }
+{
+    Arg::new(alloc, "part")
+        .long("part")
+        .value_name("K/N")
+        .action(ArgAction::Set)
+        .help(
+            "With --format report: part K of N alone, of 4096 at most; 'tacview --merge FILE ..' makes the report of all of them",
+        )
+}
+
 fn limits_option<'a>(alloc: Global, sizes: &'a [PossibleValue<'a>]) -> Arg<'a>
     ensures rule { rule_of result ≡ kind_rule (codes "limits") (codes "standard") sizes.entry }
     ensures own { result.global ≡ false }
@@ -175,6 +217,18 @@ fn form_command<'a>(
         .arg(facts_option(alloc))
 }
 
+// The command with the options that say how facts are shown.
+fn look_command<'a>(
+    alloc: Global,
+    formats: &'a [PossibleValue<'a>],
+) -> Result<Command<'a>, OutOfMemory>
+    ensures { IfOk result (λ c. app_of c ≡ look_command formats.entry) }
+{
+    form_command(alloc, formats)?
+        .arg(hide_entry_option(alloc))?
+        .arg(facts_behind_option(alloc))
+}
+
 // The command with the options that say what is shown.
 fn view_command<'a>(
     alloc: Global,
@@ -182,22 +236,21 @@ fn view_command<'a>(
 ) -> Result<Command<'a>, OutOfMemory>
     ensures { IfOk result (λ c. app_of c ≡ view_command formats.entry) }
 {
-    form_command(alloc, formats)?
+    look_command(alloc, formats)?
         .arg(procedure_option(alloc))?
         .arg(paths_option(alloc))
 }
 
-// The command with the option of the path that is marked, and that of limits.
-fn marking_command<'a>(
+// The command with the options of the path that is marked, and of the part.
+fn part_command<'a>(
     alloc: Global,
     formats: &'a [PossibleValue<'a>],
-    sizes: &'a [PossibleValue<'a>],
 ) -> Result<Command<'a>, OutOfMemory>
-    ensures { IfOk result (λ c. app_of c ≡ marking_command formats.entry sizes.entry) }
+    ensures { IfOk result (λ c. app_of c ≡ part_command formats.entry) }
 {
     view_command(alloc, formats)?
         .arg(because_option(alloc))?
-        .arg(limits_option(alloc, sizes))
+        .arg(part_option(alloc))
 }
 
 fn command<'a>(
@@ -207,7 +260,8 @@ fn command<'a>(
 ) -> Result<Command<'a>, OutOfMemory>
     ensures { IfOk result (λ c. app_of c ≡ tacview_command formats.entry sizes.entry) }
 {
-    marking_command(alloc, formats, sizes)?
+    part_command(alloc, formats)?
+        .arg(limits_option(alloc, sizes))?
         .arg(workers_option(alloc))?
         .arg(cut_option(alloc))
 }
@@ -220,11 +274,11 @@ fn format_by(matches: &ArgMatches<'_>) -> Format
     format_of(kind_word(matches, "format")).unwrap()
 }
 
-// Whether paths were asked for.
-fn has_paths(matches: &ArgMatches<'_>) -> bool
-    ensures { result ≡ has_paths (rows_of (found_of matches.now)) }
+// Whether an option without a value was there.
+fn has_flag(matches: &ArgMatches<'_>, name: &str) -> bool
+    ensures { result ≡ has_flag name.now (rows_of (found_of matches.now)) }
 {
-    match matches.get_str("paths") {
+    match matches.get_str(name) {
         Some(word) => word == "true",
         None => false,
     }
@@ -245,19 +299,36 @@ fn with_paths(is: bool, format: Format) -> Option<Format>
     }
 }
 
-// Whether the path of a use is to be marked.
-fn has_because(matches: &ArgMatches<'_>) -> bool
-    ensures { result ≡ has_because (rows_of (found_of matches.now)) }
+// How a picture is to look.
+fn look_found(matches: &ArgMatches<'_>) -> Look
+    ensures { result ≡ look_queried (rows_of (found_of matches.now)) }
 {
-    match matches.get_str("because") {
-        Some(_) => true,
-        None => false,
+    Look {
+        hides_entry: has_flag(matches, "hide-entry"),
+        behind: has_flag(matches, "facts-behind"),
     }
 }
 
-// The format, where it fits to that. None where no path can be marked in it.
-fn with_because(is: bool, format: Format) -> Option<Format>
-    ensures { result ≡ with_because is format }
+// Whether it is one of its own.
+fn has_look(look: Look) -> bool
+    ensures { result ≡ has_look look }
+{
+    look.hides_entry || look.behind
+}
+
+// Whether something was asked for that pictures alone have.
+fn has_picture(matches: &ArgMatches<'_>) -> bool
+    ensures { result ≡ has_picture (rows_of (found_of matches.now)) }
+{
+    match matches.get_str("because") {
+        Some(_) => true,
+        None => has_look(look_found(matches)),
+    }
+}
+
+// The format, where it fits to that. None where it is no picture.
+fn with_picture(is: bool, format: Format) -> Option<Format>
+    ensures { result ≡ with_picture is format }
 {
     if !is {
         return Some(format);
@@ -276,16 +347,52 @@ fn format_with_paths(matches: &ArgMatches<'_>) -> Option<Format>
     ensures { result ≡ option_and_then (with_paths (has_paths (rows_of (found_of matches.now))))
         (option_and_then format_named (first_of (codes "format") (rows_of (found_of matches.now)))) }
 {
-    with_paths(has_paths(matches), format_by(matches))
+    with_paths(has_flag(matches, "paths"), format_by(matches))
 }
 
-// The format that was asked for. None where it has no paths, or no path can be marked in it, and that was asked for.
+// Whether a part was asked for.
+fn has_part(matches: &ArgMatches<'_>) -> bool
+    ensures { result ≡ has_part (rows_of (found_of matches.now)) }
+{
+    match matches.get_str("part") {
+        Some(_) => true,
+        None => false,
+    }
+}
+
+// The format, where it fits to that. None where it has no parts.
+fn with_part(is: bool, format: Format) -> Option<Format>
+    ensures { result ≡ with_part is format }
+{
+    if !is {
+        return Some(format);
+    }
+    match format {
+        Format::Dot => None,
+        Format::Json => None,
+        Format::JsonPaths => None,
+        Format::Report => Some(Format::Report),
+    }
+}
+
+// The format with paths, or with one that is marked, as it was asked for. None where it has none, and that was asked for.
+fn shown_format(matches: &ArgMatches<'_>) -> Option<Format>
+    requires { HoldsKind known_formats (rows_of (found_of matches.now)) (codes "format") }
+    ensures { result ≡ shown_format (rows_of (found_of matches.now)) }
+{
+    match format_with_paths(matches) {
+        Some(format) => with_picture(has_picture(matches), format),
+        None => None,
+    }
+}
+
+// The format that was asked for. None where it has no paths, no path can be marked in it, or it has no parts, and that was asked for.
 fn format_found(matches: &ArgMatches<'_>) -> Option<Format>
     requires { HoldsKind known_formats (rows_of (found_of matches.now)) (codes "format") }
     ensures { result ≡ format_queried (rows_of (found_of matches.now)) }
 {
-    match format_with_paths(matches) {
-        Some(format) => with_because(has_because(matches), format),
+    match shown_format(matches) {
+        Some(format) => with_part(has_part(matches), format),
         None => None,
     }
 }
@@ -328,18 +435,43 @@ fn because_found(alloc: Global, matches: &ArgMatches<'_>) -> Result<Option<Strin
     }
 }
 
-// What is asked for by its name.
-fn asked_by(alloc: Global, matches: &ArgMatches<'_>) -> Result<Asked, OutOfMemory>
+// The part that was asked for. None where the words name none.
+fn share_found(matches: &ArgMatches<'_>) -> Option<Option<Share>>
+    ensures { option_map some_share result ≡ known_share (first_of (codes "part") (rows_of (found_of matches.now))) }
+{
+    match matches.get_str("part") {
+        Some(words) => match Share::read(words.as_bytes()) {
+            Some(share) => Some(Some(share)),
+            None => None,
+        },
+        None => Some(None),
+    }
+}
+
+// What is asked for by its name, and this part.
+fn asked_by(
+    alloc: Global,
+    matches: &ArgMatches<'_>,
+    share: Option<Share>,
+) -> Result<Asked, OutOfMemory>
     ensures procedure { IfOk result (λ asked. option_map string_bytes asked.procedure
         ≡ first_of (codes "procedure") (rows_of (found_of matches.now))) }
     ensures because { IfOk result (λ asked. option_map string_bytes asked.because ≡ first_of (codes "because") (rows_of (found_of matches.now))) }
+    ensures share { IfOk result (λ asked. asked.share ≡ share) }
+    ensures look { IfOk result (λ asked. asked.look ≡ look_queried (rows_of (found_of matches.now))) }
 {
     let procedure = procedure_found(alloc, matches)?;
     let because = because_found(alloc, matches)?;
-    Ok(Asked { procedure, because })
+    Ok(Asked {
+        procedure,
+        because,
+        share,
+        look: look_found(matches),
+    })
 }
 
-// The options that the matches name, of which the format is found. None where the list of facts names no facts.
+// The options that the matches name, of which the format is found. None where the list of facts names no facts, or the words for a part
+// name none.
 fn options_of(
     alloc: Global,
     matches: &ArgMatches<'_>,
@@ -348,7 +480,8 @@ fn options_of(
     requires held { HoldsOptions (rows_of (found_of matches.now)) }
     requires format { format_queried (rows_of (found_of matches.now)) ≡ Some format }
     ensures options { IfOk result (λ options. IfSome options (NamesOptions (rows_of (found_of matches.now)))) }
-    ensures known { IfOk result (λ options. is_some options ≡ knows_facts (rows_of (found_of matches.now))) }
+    ensures known { IfOk result (λ options. is_some options
+        ≡ (knows_facts (rows_of (found_of matches.now)) && knows_share (rows_of (found_of matches.now)))) }
 {
     let workers = number_of(matches, "workers");
     let cut = number_of(matches, "cut");
@@ -356,12 +489,15 @@ fn options_of(
     let Some(facts) = facts_found(matches, format) else {
         return Ok(None);
     };
-    let asked = asked_by(alloc, matches)?;
+    let Some(share) = share_found(matches) else {
+        return Ok(None);
+    };
+    let asked = asked_by(alloc, matches, share)?;
     Ok(Options::new(workers, cut, limits, format, facts, asked))
 }
 
-// The options that the matches name, or an error of the command where the format has no paths, or no path that is marked, and that was asked
-// for, or where the list of facts names no facts.
+// The options that the matches name, or an error of the command where the format has no paths, no path that is marked, or no parts, and
+// that was asked for, or where the list of facts names no facts, or the words for a part name none.
 fn named_options(
     alloc: Global,
     command: &mut Command<'_>,
@@ -372,23 +508,23 @@ fn named_options(
     ensures faults { FailsBy (option_kinds (rows_of (found_of matches.now))) result }
 {
     let Some(format) = format_found(matches) else {
-        return Err(command.error(ErrorKind::ArgumentConflict, NO_PATHS)?);
+        return Err(command.error(ErrorKind::ArgumentConflict, NO_FORMAT)?);
     };
     match options_of(alloc, matches, format)? {
         Some(options) => Ok(options),
-        None => Err(command.error(ErrorKind::InvalidValue, NO_FACTS)?),
+        None => Err(command.error(ErrorKind::InvalidValue, NO_VALUE)?),
     }
 }
 
 impl Options {
     /// The options that the program's words name, of which the first is the program's own name:
-    /// `tacview [--format KIND] [--facts LIST] [--procedure NAME] [--paths] [--because PLACE] [--limits SIZE] [--workers N] [--cut N]`.
-    /// Without an option stands its default: `dot`, no facts for it and all for `json`, all procedures, no paths, no path that is marked,
-    /// `standard`, 1 and 64.
+    /// `tacview [--format KIND] [--facts LIST] [--hide-entry] [--facts-behind] [--procedure NAME] [--paths] [--because PLACE] [--part K/N]
+    /// [--limits SIZE] [--workers N] [--cut N]`. Without an option stands its default: `dot`, no facts for it and all for `json`, with entries
+    /// and none behind, all procedures, no paths, no path that is marked, the whole report, `standard`, 1 and 64.
     ///
     /// Refuses words that the command does not take, a number outside its range, a word that is no format or no limits, paths with a
-    /// format other than `json`, a path that is marked with one other than `dot`, and a list that names no facts among them, and a call for
-    /// help; or memory was refused.
+    /// format other than `json`, a path that is marked or a look with one other than `dot`, a part with one other than `report`, a list that
+    /// names no facts and words that name no part among them, and a call for help; or memory was refused.
     pub fn from_words<'a>(alloc: Global, words: &'a [&'a str]) -> Result<Options, Error>
         ensures { AnswersWords (map (λ w. w.now) words.entry.now) result }
     {

@@ -5,6 +5,8 @@
 #[cfg(test)]
 mod limit_tests;
 #[cfg(test)]
+mod part_tests;
+#[cfg(test)]
 mod path_tests;
 #[cfg(test)]
 mod picture_tests;

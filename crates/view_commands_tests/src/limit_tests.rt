@@ -44,13 +44,15 @@ fn check_refused<R: Threads + Sync + Abort + AllocGlobal>(
 // What stands around the number of each procedure but `main`.
 const AROUND_NUMBERS: (&str, &str) = ("proc q", "\nend\n");
 
-const LINE_BEFORE_NAMES: &str = "{\"type\":\"program\",\"points\":257,\"procedures\":[\"main\"";
+const LINE_BEFORE_NAMES: &str =
+    "{\"type\":\"program\",\"version\":1,\"points\":257,\"procedures\":[\"main\"";
 
 const LINES_BEHIND_NAMES: &str = "],\"variables\":[],\"definitions\":0,\"expressions\":0}\n\
-    {\"type\":\"point\",\"point\":0,\"procedure\":\"main\",\"place\":0,\"line\":null,\"first\":null,\"last\":null,\"statement\":null,\"edges\":[]}\n";
+    {\"type\":\"point\",\"point\":0,\"procedure\":\"main\",\"place\":0,\"line\":null,\"first\":null,\"last\":null,\"labels\":[],\"statement\":null,\"doubtful\":false,\"edges\":[]}\n";
 
+// Nothing calls these procedures, so no path leads from them to the end of `main`.
 const BEHIND_NAME: &str =
-    "\",\"place\":0,\"line\":null,\"first\":null,\"last\":null,\"statement\":null,\"edges\":[]}\n";
+    "\",\"place\":0,\"line\":null,\"first\":null,\"last\":null,\"labels\":[],\"statement\":null,\"doubtful\":true,\"edges\":[]}\n";
 
 // The lines of JSON of 257 procedures without statements.
 fn lines_of_procedures(alloc: Global) -> Result<String, OutOfMemory> {
@@ -61,6 +63,7 @@ fn lines_of_procedures(alloc: Global) -> Result<String, OutOfMemory> {
         write!(text, "{number},\"procedure\":\"q{number}")?;
         text.push_str(BEHIND_NAME)?;
     }
+    text.push_str("{\"type\":\"end\",\"points\":257}\n")?;
     Ok(text)
 }
 

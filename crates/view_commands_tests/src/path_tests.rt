@@ -25,7 +25,7 @@ const PATHS_OF_F: Queried<'static> = Queried {
     because: None,
 };
 
-// Texts, and how their lines end: the edges of the last point, all remarks, and the doubts.
+// Texts, and how their lines end: the edges of the last point, all remarks, the doubts, and the last line.
 const ENDS: &[(&str, Queried<'static>, &str)] = &[
     // A procedure that calls itself: it is passed as a whole, and it is entered.
     (
@@ -35,7 +35,8 @@ const ENDS: &[(&str, Queried<'static>, &str)] = &[
         {\"type\":\"remark\",\"point\":1,\"line\":3,\"first\":18,\"last\":24,\"kind\":\"unset\",\"variable\":\"x\",\
         \"path\":[{\"kind\":\"pass\",\"site\":0,\"callee\":1,\"from\":0,\"to\":1}]}\n\
         {\"type\":\"remark\",\"point\":3,\"line\":6,\"first\":37,\"last\":47,\"kind\":\"unset\",\"variable\":\"y\",\
-        \"path\":[{\"kind\":\"enter\",\"site\":0,\"from\":0,\"to\":3}]}\n",
+        \"path\":[{\"kind\":\"enter\",\"site\":0,\"from\":0,\"to\":3}]}\n\
+        {\"type\":\"end\",\"points\":6}\n",
     ),
     // Of two callees one sets the variable: the other is passed.
     (
@@ -43,7 +44,8 @@ const ENDS: &[(&str, Queried<'static>, &str)] = &[
         PATHS,
         "\"edges\":[{\"kind\":\"return\",\"site\":0,\"to\":1}]}\n\
         {\"type\":\"remark\",\"point\":1,\"line\":3,\"first\":22,\"last\":28,\"kind\":\"unset\",\"variable\":\"x\",\
-        \"path\":[{\"kind\":\"pass\",\"site\":0,\"callee\":2,\"from\":0,\"to\":1}]}\n",
+        \"path\":[{\"kind\":\"pass\",\"site\":0,\"callee\":2,\"from\":0,\"to\":1}]}\n\
+        {\"type\":\"end\",\"points\":6}\n",
     ),
     // A loop that sets the variable: its test leads past it. At the entry of `main` a path has no hop.
     (
@@ -52,7 +54,8 @@ const ENDS: &[(&str, Queried<'static>, &str)] = &[
         "\"edges\":[]}\n\
         {\"type\":\"remark\",\"point\":0,\"line\":3,\"first\":14,\"last\":24,\"kind\":\"unset\",\"variable\":\"y\",\"path\":[]}\n\
         {\"type\":\"remark\",\"point\":3,\"line\":7,\"first\":42,\"last\":48,\"kind\":\"unset\",\"variable\":\"x\",\
-        \"path\":[{\"kind\":\"step\",\"from\":0,\"to\":3}]}\n",
+        \"path\":[{\"kind\":\"step\",\"from\":0,\"to\":3}]}\n\
+        {\"type\":\"end\",\"points\":5}\n",
     ),
     // A call is passed, the next one is entered, and the test leads on.
     (
@@ -64,7 +67,8 @@ const ENDS: &[(&str, Queried<'static>, &str)] = &[
         \"to\":6}]}\n\
         {\"type\":\"remark\",\"point\":7,\"line\":13,\"first\":83,\"last\":89,\"kind\":\"unset\",\"variable\":\"x\",\
         \"path\":[{\"kind\":\"pass\",\"site\":0,\"callee\":2,\"from\":0,\"to\":1},{\"kind\":\"enter\",\"site\":1,\"from\":1,\
-        \"to\":6},{\"kind\":\"step\",\"from\":6,\"to\":7}]}\n",
+        \"to\":6},{\"kind\":\"step\",\"from\":6,\"to\":7}]}\n\
+        {\"type\":\"end\",\"points\":9}\n",
     ),
     // The writes that overwrite a dead assignment.
     (
@@ -74,7 +78,8 @@ const ENDS: &[(&str, Queried<'static>, &str)] = &[
         {\"type\":\"remark\",\"point\":0,\"line\":2,\"first\":11,\"last\":15,\"kind\":\"dead\",\"variable\":\"x\",\
         \"next_writes\":[2,4],\"may_end_unwritten\":false}\n\
         {\"type\":\"remark\",\"point\":1,\"line\":3,\"first\":17,\"last\":27,\"kind\":\"unset\",\"variable\":\"y\",\
-        \"path\":[{\"kind\":\"step\",\"from\":0,\"to\":1}]}\n",
+        \"path\":[{\"kind\":\"step\",\"from\":0,\"to\":1}]}\n\
+        {\"type\":\"end\",\"points\":7}\n",
     ),
     // Evaluations that are met first and last, and who holds the value: `x` on both ways, `y` on one.
     (
@@ -88,7 +93,8 @@ const ENDS: &[(&str, Queried<'static>, &str)] = &[
         {\"type\":\"remark\",\"point\":6,\"line\":9,\"first\":67,\"last\":75,\"kind\":\"computed\",\"expression\":\"a + b\",\
         \"last_evaluations\":[5],\"holders\":[\"y\"]}\n\
         {\"type\":\"remark\",\"point\":7,\"line\":11,\"first\":80,\"last\":88,\"kind\":\"computed\",\
-        \"expression\":\"a + b\",\"last_evaluations\":[3,6],\"holders\":[\"x\"]}\n",
+        \"expression\":\"a + b\",\"last_evaluations\":[3,6],\"holders\":[\"x\"]}\n\
+        {\"type\":\"end\",\"points\":11}\n",
     ),
     // A call that never comes back: lines behind it are never reached, and doubt begins at it.
     (
@@ -99,7 +105,8 @@ const ENDS: &[(&str, Queried<'static>, &str)] = &[
         \"edges\":[{\"kind\":\"call\",\"site\":1,\"to\":5}]}\n\
         {\"type\":\"remark\",\"point\":3,\"line\":5,\"first\":31,\"last\":35,\"kind\":\"never_reached\",\"last_reached\":1,\
         \"edges\":[{\"kind\":\"call\",\"site\":1,\"to\":5}]}\n\
-        {\"type\":\"doubt\",\"point\":0,\"line\":2,\"variable\":\"x\",\"doubt\":1}\n",
+        {\"type\":\"doubt\",\"point\":0,\"line\":2,\"variable\":\"x\",\"doubt\":1}\n\
+        {\"type\":\"end\",\"points\":7}\n",
     ),
     // A procedure that nothing calls: no line before it is reached.
     (
@@ -107,7 +114,8 @@ const ENDS: &[(&str, Queried<'static>, &str)] = &[
         PATHS,
         "\"edges\":[]}\n\
         {\"type\":\"remark\",\"point\":1,\"line\":4,\"first\":22,\"last\":28,\"kind\":\"never_reached\",\
-        \"last_reached\":null,\"edges\":[]}\n",
+        \"last_reached\":null,\"edges\":[]}\n\
+        {\"type\":\"end\",\"points\":3}\n",
     ),
     // Of one procedure, the remarks on it.
     (
@@ -115,7 +123,8 @@ const ENDS: &[(&str, Queried<'static>, &str)] = &[
         PATHS_OF_F,
         "\"edges\":[{\"kind\":\"return\",\"site\":0,\"to\":1},{\"kind\":\"return\",\"site\":4,\"to\":5}]}\n\
         {\"type\":\"remark\",\"point\":3,\"line\":6,\"first\":37,\"last\":47,\"kind\":\"unset\",\"variable\":\"y\",\
-        \"path\":[{\"kind\":\"enter\",\"site\":0,\"from\":0,\"to\":3}]}\n",
+        \"path\":[{\"kind\":\"enter\",\"site\":0,\"from\":0,\"to\":3}]}\n\
+        {\"type\":\"end\",\"points\":3}\n",
     ),
 ];
 

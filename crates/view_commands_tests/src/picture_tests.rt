@@ -22,7 +22,7 @@ const MARKS: &[(&str, Option<&str>, &str, &str)] = &[
         CALLS_ITSELF,
         None,
         "3",
-        "  0 [color=blue, penwidth=3];\n  0 -> 1 [color=blue, penwidth=3, style=dashed];\n  1 [color=blue, penwidth=3];\n",
+        "  0 [color=blue, penwidth=3];\n  0 -> 1 [color=blue, penwidth=3, style=dashed, arrowhead=normal];\n  1 [color=blue, penwidth=3];\n",
     ),
     (
         CALLS_ITSELF,

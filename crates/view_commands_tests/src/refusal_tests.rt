@@ -1,5 +1,6 @@
 // Runs of `tacview` where memory is refused, as `test_support` has it.
 
+use crate::part_tests::{PARTS, options_of};
 use crate::tacview_tests::{
     F_GRAPH, GRAPH, GRAPH_OF_F, LINES, Queried, REPORT, SMALL_GRAPH, SMALL_LINES, options,
     run_to_page,
@@ -10,7 +11,7 @@ use std::test::Fail;
 use std::thread::Threads;
 use test_support::all_or_nothing;
 use test_support::failing_streams::blank_page;
-use test_support::worked_programs::{TEAMS, call_between, recursion, small};
+use test_support::worked_programs::{TEAMS, call_between, recursion, remarks, small};
 use view_commands::Options;
 
 // The answer to a text.
@@ -46,6 +47,18 @@ fn run_is_refused(rt: HostRuntime) -> Result<(), Fail> {
         for team in TEAMS {
             if let Some(options) = options(rt.alloc(), *queried, *team) {
                 check_view(&rt, text, &options, answer)?;
+            }
+        }
+    }
+    Ok(())
+}
+
+#[test]
+fn part_is_refused(rt: HostRuntime) -> Result<(), Fail> {
+    for (part, count, answer) in PARTS {
+        for team in TEAMS {
+            if let Some(options) = options_of(rt.alloc(), *part, *count, *team) {
+                check_view(&rt, remarks::TEXT, &options, answer)?;
             }
         }
     }

@@ -3,7 +3,7 @@
 use clap::error;
 use flow_graph::GraphFault;
 use flow_runs::Fault;
-use flow_views::Chosen;
+use flow_views::{Chosen, Look};
 use std::alloc::Global;
 use std::io::{ErrorKind, Read};
 use std::process::Abort;
@@ -70,6 +70,12 @@ pub(crate) const REPORT: Queried<'static> = Queried {
     because: None,
 };
 
+// Facts before statements alone, with the values at the beginning.
+pub(crate) const PLAIN: Look = Look {
+    hides_entry: false,
+    behind: false,
+};
+
 // A copy of a text, if there is one. None where memory is refused.
 fn copied(alloc: Global, text: Option<&str>) -> Option<Option<String>> {
     match text {
@@ -87,6 +93,8 @@ pub(crate) fn asked(
     Some(Asked {
         procedure: copied(alloc, procedure)?,
         because: copied(alloc, because)?,
+        share: None,
+        look: PLAIN,
     })
 }
 
@@ -189,17 +197,18 @@ pub(crate) const SMALL_GRAPH: &str =
     node [shape=box, fontname=\"monospace\", fontsize=11];\n  \
     edge [fontname=\"monospace\", fontsize=10];\n  subgraph \"cluster_0\" {\n    \
     label=\"main\";\n    \
-    0 [label=\"2: x = 1\\lassignment to x is dead\\l\", style=filled, fillcolor=khaki];\n    1 [label=\"end of main\\l\"];\n  }\n  0 -> 1;\n}\n";
+    0 [label=\"L:\\l2: x = 1\\lassignment to x is dead\\l\", style=filled, fillcolor=khaki];\n    1 [label=\"end of main\\l\"];\n  }\n  0 -> 1;\n}\n";
 
 pub(crate) const SMALL_LINES: &str =
-    "{\"type\":\"program\",\"points\":2,\"procedures\":[\"main\"],\"variables\":[\"x\"],\"definitions\":2,\"expressions\":0}\n\
-    {\"type\":\"point\",\"point\":0,\"procedure\":\"main\",\"place\":0,\"line\":2,\"first\":14,\"last\":18,\"statement\":\"x = 1\",\
-    \"edges\":[{\"kind\":\"step\",\"to\":1}],\"reach\":{\"path\":true,\"bits\":[0],\"names\":[\"x@entry\"]},\"live\":{\"path\":true,\"bits\":[],\
+    "{\"type\":\"program\",\"version\":1,\"points\":2,\"procedures\":[\"main\"],\"variables\":[\"x\"],\"definitions\":2,\"expressions\":0}\n\
+    {\"type\":\"point\",\"point\":0,\"procedure\":\"main\",\"place\":0,\"line\":2,\"first\":14,\"last\":18,\"labels\":[\"L\"],\"statement\":\"x = 1\",\
+    \"doubtful\":false,\"edges\":[{\"kind\":\"step\",\"to\":1}],\"reach\":{\"path\":true,\"bits\":[0],\"names\":[\"x@entry\"]},\"live\":{\"path\":true,\"bits\":[],\
     \"names\":[]},\"avail\":{\"path\":true,\"bits\":[],\"names\":[]},\"busy\":{\"path\":true,\"bits\":[],\"names\":[]}}\n\
-    {\"type\":\"point\",\"point\":1,\"procedure\":\"main\",\"place\":1,\"line\":null,\"first\":null,\"last\":null,\"statement\":null,\"edges\":[],\
+    {\"type\":\"point\",\"point\":1,\"procedure\":\"main\",\"place\":1,\"line\":null,\"first\":null,\"last\":null,\"labels\":[],\"statement\":null,\"doubtful\":false,\"edges\":[],\
     \"reach\":{\"path\":true,\"bits\":[1],\"names\":[\"x@2\"]},\"live\":{\"path\":true,\"bits\":[],\"names\":[]},\"avail\":{\"path\":true,\
     \"bits\":[],\"names\":[]},\"busy\":{\"path\":true,\"bits\":[],\"names\":[]}}\n\
-    {\"type\":\"remark\",\"point\":0,\"line\":2,\"first\":14,\"last\":18,\"kind\":\"dead\",\"variable\":\"x\"}\n";
+    {\"type\":\"remark\",\"point\":0,\"line\":2,\"first\":14,\"last\":18,\"kind\":\"dead\",\"variable\":\"x\"}\n\
+    {\"type\":\"end\",\"points\":2}\n";
 
 const SMALL_REPORT: &str =
     "points 2, variables 1, definitions 2, expressions 0\n2: assignment to x is dead\n";
@@ -211,10 +220,10 @@ const RECURSION_GRAPH: &str =
     label=\"main\";\n    0 [label=\"2: x = 1\\l\"];\n    1 [label=\"3: call f\\l\"];\n    \
     2 [label=\"4: print x\\l\"];\n    3 [label=\"end of main\\l\"];\n  }\n  \
     subgraph \"cluster_1\" {\n    label=\"f\";\n    4 [label=\"7: if x goto L\\l\"];\n    \
-    5 [label=\"8: call f\\l\"];\n    6 [label=\"9: x = 2\\l\"];\n    7 [label=\"end of f\\l\"];\n  \
-    }\n  0 -> 1;\n  1 -> 4 [style=dashed, label=\"call 3\"];\n  2 -> 3;\n  4 -> 5;\n  4 -> 7;\n  \
-    5 -> 4 [style=dashed, label=\"call 8\"];\n  6 -> 7;\n  \
-    7 -> 2 [style=dashed, label=\"return 3\"];\n  7 -> 6 [style=dashed, label=\"return 8\"];\n}\n";
+    5 [label=\"8: call f\\l\"];\n    6 [label=\"9: x = 2\\l\"];\n    7 [label=\"L:\\lend of f\\l\"];\n  \
+    }\n  0 -> 1;\n  1 -> 4 [style=dashed, color=grey60, fontcolor=grey40, constraint=false, xlabel=\"call 3\"];\n  1 -> 2 [style=dotted, arrowhead=none];\n  2 -> 3;\n  4 -> 5 [label=\"F\"];\n  4 -> 7 [label=\"T\"];\n  \
+    5 -> 4 [style=dashed, color=grey60, fontcolor=grey40, constraint=false, xlabel=\"call 8\"];\n  5 -> 6 [style=dotted, arrowhead=none];\n  6 -> 7;\n  \
+    7 -> 2 [style=dashed, color=grey60, fontcolor=grey40, constraint=false, xlabel=\"return 3\"];\n  7 -> 6 [style=dashed, color=grey60, fontcolor=grey40, constraint=false, xlabel=\"return 8\"];\n}\n";
 
 pub(crate) const F_GRAPH: &str =
     "digraph \"tacflow\" {\n  graph [fontname=\"monospace\", labeljust=l];\n  \
@@ -223,19 +232,20 @@ pub(crate) const F_GRAPH: &str =
     4 [label=\"7: if x goto L\\lreach: x@2\\l\"];\n    \
     5 [label=\"8: call f\\lreach: x@2\\l\"];\n    \
     6 [label=\"9: x = 2\\lreach: x@2, x@9\\l\"];\n    \
-    7 [label=\"end of f\\lreach: x@2, x@9\\l\"];\n  }\n  4 -> 5;\n  4 -> 7;\n  \
-    5 -> 4 [style=dashed, label=\"call 8\"];\n  5 -> 6 [style=dashed, label=\"call\"];\n  6 -> 7;\n  7 -> 6 [style=dashed, label=\"return 8\"];\n}\n";
+    7 [label=\"L:\\lend of f\\lreach: x@2, x@9\\l\"];\n  }\n  4 -> 5 [label=\"F\"];\n  4 -> 7 [label=\"T\"];\n  \
+    5 -> 4 [style=dashed, color=grey60, fontcolor=grey40, constraint=false, xlabel=\"call 8\"];\n  5 -> 6 [style=dotted, arrowhead=none];\n  6 -> 7;\n  7 -> 6 [style=dashed, color=grey60, fontcolor=grey40, constraint=false, xlabel=\"return 8\"];\n}\n";
 
 const F_LINES: &str =
-    "{\"type\":\"program\",\"points\":8,\"procedures\":[\"main\",\"f\"],\"variables\":[\"x\"],\"definitions\":3,\"expressions\":0}\n\
-    {\"type\":\"point\",\"point\":4,\"procedure\":\"f\",\"place\":0,\"line\":7,\"first\":43,\"last\":53,\"statement\":\"if x goto L\",\
-    \"edges\":[{\"kind\":\"step\",\"to\":5},{\"kind\":\"step\",\"to\":7}]}\n\
-    {\"type\":\"point\",\"point\":5,\"procedure\":\"f\",\"place\":1,\"line\":8,\"first\":55,\"last\":60,\"statement\":\"call f\",\
-    \"edges\":[{\"kind\":\"call\",\"site\":5,\"to\":4}]}\n\
-    {\"type\":\"point\",\"point\":6,\"procedure\":\"f\",\"place\":2,\"line\":9,\"first\":62,\"last\":66,\"statement\":\"x = 2\",\
-    \"edges\":[{\"kind\":\"step\",\"to\":7}]}\n\
-    {\"type\":\"point\",\"point\":7,\"procedure\":\"f\",\"place\":3,\"line\":null,\"first\":null,\"last\":null,\"statement\":null,\
-    \"edges\":[{\"kind\":\"return\",\"site\":1,\"to\":2},{\"kind\":\"return\",\"site\":5,\"to\":6}]}\n";
+    "{\"type\":\"program\",\"version\":1,\"points\":8,\"procedures\":[\"main\",\"f\"],\"variables\":[\"x\"],\"definitions\":3,\"expressions\":0}\n\
+    {\"type\":\"point\",\"point\":4,\"procedure\":\"f\",\"place\":0,\"line\":7,\"first\":43,\"last\":53,\"labels\":[],\"statement\":\"if x goto L\",\
+    \"doubtful\":false,\"edges\":[{\"kind\":\"step\",\"to\":5,\"when\":false},{\"kind\":\"step\",\"to\":7,\"when\":true}]}\n\
+    {\"type\":\"point\",\"point\":5,\"procedure\":\"f\",\"place\":1,\"line\":8,\"first\":55,\"last\":60,\"labels\":[],\"statement\":\"call f\",\
+    \"doubtful\":false,\"edges\":[{\"kind\":\"call\",\"site\":5,\"to\":4}]}\n\
+    {\"type\":\"point\",\"point\":6,\"procedure\":\"f\",\"place\":2,\"line\":9,\"first\":62,\"last\":66,\"labels\":[],\"statement\":\"x = 2\",\
+    \"doubtful\":false,\"edges\":[{\"kind\":\"step\",\"to\":7}]}\n\
+    {\"type\":\"point\",\"point\":7,\"procedure\":\"f\",\"place\":3,\"line\":null,\"first\":null,\"last\":null,\"labels\":[\"L\"],\"statement\":null,\
+    \"doubtful\":false,\"edges\":[{\"kind\":\"return\",\"site\":1,\"to\":2},{\"kind\":\"return\",\"site\":5,\"to\":6}]}\n\
+    {\"type\":\"end\",\"points\":4}\n";
 
 // Each text is answered so.
 fn check_all<R: Threads + Sync + Abort + AllocGlobal>(
@@ -545,6 +555,95 @@ fn words_that_are_taken(rt: HostRuntime) -> Result<(), Fail> {
     Ok(())
 }
 
+// Words for how a picture looks, and what they name.
+const LOOKS: &[(&[&str], bool, bool)] = &[
+    (&["tacview"], false, false),
+    (&["tacview", "--hide-entry"], true, false),
+    (&["tacview", "--facts-behind", "--format=dot"], false, true),
+    (
+        &["tacview", "--facts-behind", "--because=3", "--hide-entry"],
+        true,
+        true,
+    ),
+];
+
+// Looks go with pictures alone.
+const NO_LOOKS: &[&[&str]] = &[
+    &["tacview", "--format=json", "--hide-entry"],
+    &["tacview", "--format=json", "--paths", "--facts-behind"],
+    &[
+        "tacview",
+        "--format=report",
+        "--hide-entry",
+        "--facts-behind",
+    ],
+];
+
+#[test]
+fn looks_that_are_named(rt: HostRuntime) -> Result<(), Fail> {
+    for (words, hides_entry, behind) in LOOKS {
+        let asked = asked_by(rt.alloc(), words)?;
+        assert!(rt; asked.look.hides_entry == *hides_entry && asked.look.behind == *behind);
+    }
+    for words in NO_LOOKS {
+        match named_by(rt.alloc(), words) {
+            Ok(_) => assert!(rt; false),
+            Err(kind) => assert!(rt; kind == error::ErrorKind::ArgumentConflict),
+        }
+    }
+    Ok(())
+}
+
+// Words for a part, and which part of how many they name.
+const SHARES: &[(&str, u32, u32)] = &[
+    ("1/1", 1, 1),
+    ("2/3", 2, 3),
+    ("4096/4096", 4_096, 4_096),
+    ("007/0010", 7, 10),
+];
+
+#[test]
+fn parts_that_are_named(rt: HostRuntime) -> Result<(), Fail> {
+    for (words, part, count) in SHARES {
+        let asked = asked_by(rt.alloc(), &["tacview", "--format=report", "--part", words])?;
+        let share = asked.share.ok_or("a part")?;
+        assert!(rt; share.part == *part && share.count == *count);
+    }
+    let whole = asked_by(rt.alloc(), &["tacview", "--format=report"])?;
+    assert!(rt; whole.share.is_none());
+    Ok(())
+}
+
+const NO_SHARES: &[&str] = &[
+    "",
+    "/",
+    "1",
+    "1/",
+    "/1",
+    "0/1",
+    "2/1",
+    "1/0",
+    "1/4097",
+    "4097/4097",
+    "+1/2",
+    "1/2/3",
+    " 1/2",
+    "1 /2",
+    "1/2x",
+    "99999999999999999999/1",
+];
+
+#[test]
+fn words_that_name_no_part(rt: HostRuntime) {
+    for words in NO_SHARES {
+        let line = ["tacview", "--format=report", "--part", words];
+        match named_by(rt.alloc(), &line) {
+            Ok(_) => assert!(rt; false),
+            Err(kind) => assert!(rt; kind == error::ErrorKind::InvalidValue),
+        }
+    }
+}
+
 #[test]
 fn limits_that_are_named(rt: HostRuntime) -> Result<(), Fail> {
     assert!(rt; limits_by(rt.alloc(), &["tacview"])? == Limits::Standard);
@@ -616,6 +715,10 @@ const REFUSED_WORDS: &[[&str; 3]] = &[
     ["tacview", "--format=report", "--because=3"],
     ["tacview", "--because=3", "--because=3"],
     ["tacview", "--facts=all", "--because"],
+    ["tacview", "--part=1/2", "--format=dot"],
+    ["tacview", "--part=1/2", "--format=json"],
+    ["tacview", "--format=report", "--part"],
+    ["tacview", "--format=report", "--part=0/2"],
 ];
 
 #[test]

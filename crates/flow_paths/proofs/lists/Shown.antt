@@ -10,6 +10,7 @@ use Rattle.flow_reports.specs.declared.unset.UnsetUse.{UnsetUse}
 use Rattle.flow_views.specs.Views.{end_shown, first_shown, points_in, shown_points}
 use Rattle.flow_views.specs.code.ViewProgram.{AreShown, IsShownProcedure}
 use Rattle.flow_views.specs.declared.view.Chosen.{Chosen}
+use Rattle.flow_views.specs.declared.view.Look.{Look}
 use Rattle.flow_views.specs.declared.view_program.ViewProgram.{ViewProgram}
 use Rattle.flow_views.proofs.facts.Known.{all_of, all_of_is}
 use Rattle.flow_views.proofs.facts.Tables.{ends_below, shown_within}
@@ -39,13 +40,13 @@ all_points program procedure number there is =
     all_between (first_shown program procedure) (end_shown program procedure) (entry_point program number) (suc (end_place program number))
     bounds.0 bounds.1
 
-pub each_shown : (program : Program) (facts : Chosen) (procedure : Option ℕ) → IfSome procedure (λ p. p < length program.procedures)
+pub each_shown : (program : Program) (facts : Chosen) (procedure : Option ℕ) (look : Look) → IfSome procedure (λ p. p < length program.procedures)
     → All (λ k. (first_shown program procedure ≤ k) × (k < end_shown program procedure))
-    (shown_points program (record { facts = facts; procedure = procedure }))
-each_shown program facts None there =
+    (shown_points program (record { facts = facts; procedure = procedure; look = look }))
+each_shown program facts None look there =
     all_of_range (λ k. (first_shown program None ≤ k) × (k < end_shown program None)) (points_in program) 0 (length program.procedures)
     (λ number low high. all_points program None number (omega (arith, high)) tt)
-each_shown program facts (Some procedure) there =
+each_shown program facts (Some procedure) look there =
     All-append (λ k. (first_shown program (Some procedure) ≤ k) × (k < end_shown program (Some procedure)))
     (points_in program procedure) [] (all_points program (Some procedure) procedure there refl)
     (All-nil (λ k. (first_shown program (Some procedure) ≤ k) × (k < end_shown program (Some procedure))))
@@ -73,7 +74,7 @@ module _ (shown : ViewProgram) (are : AreShown shown) (uses : List UnsetUse)
   shown_witnesses graph same table paths = λ known is_known point variable shows said.
       let at = All-contains (λ k. (first_shown shown.found.graph.now shown.view.procedure ≤ k) × (k < end_shown shown.found.graph.now shown.view.procedure))
       (shown_points shown.found.graph.now shown.view) point
-      (each_shown shown.found.graph.now shown.view.facts shown.view.procedure are.procedure) shows in
+      (each_shown shown.found.graph.now shown.view.facts shown.view.procedure shown.view.look are.procedure) shows in
       let low : first_shown shown.found.graph.now shown.view.procedure ≤ point = at.0 in
       let high : point < end_shown shown.found.graph.now shown.view.procedure = at.1 in
       let program : Program = shown.found.graph.now in

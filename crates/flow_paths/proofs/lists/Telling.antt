@@ -46,7 +46,7 @@ module _ (found : Findings) (are : AreFindings found) (doubts : TellDoubtful fou
       let every : List PlacedRemark = remarks_of program (knowledge_of found) in
       let bounds = inside program view.procedure there in
       let at = All-contains (λ k. (first_shown program view.procedure ≤ k) × (k < end_shown program view.procedure)) (shown_points program view) point
-      (each_shown program view.facts view.procedure there) shows in
+      (each_shown program view.facts view.procedure view.look there) shows in
       let low : first_shown program view.procedure ≤ point = at.0 in
       let high : point < end_shown program view.procedure = at.1 in
       let below : point < point_count program = omega (arith, high, bounds.1) in

@@ -18,7 +18,8 @@ none_below kind = record {
 }
 
 module _ (kind : ℕ → Type 0) (n : ℕ) (old : List ℕ) (are : AreAllBelow kind n old) where
-  not_here : (kind n → ⊥) → AreAllBelow kind (n + 1) old
+  -- one number more, which is not of the kind
+  pub not_here : (kind n → ⊥) → AreAllBelow kind (n + 1) old
   not_here none = record {
     rising = are.rising;
     below = λ m at. let is = are.below m at in (omega (arith, is.0), is.1);

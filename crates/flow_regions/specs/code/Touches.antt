@@ -27,6 +27,12 @@ pub record AreTouches (selection : Selection) (marks : List Bool) (table : Lists
   pub each : (point column : ℕ) → point < point_count selection.program → column < column_count selection
       → IsMarked marks column → IsColumnAffected selection point column → Has table column point
 
+-- such a table of marks that these columns have
+pub record HaveTouches (selection : Selection) (columns : List ℕ) (table : Lists) : Type 0 where
+  pub marks : List Bool
+  pub are_marked : AreMarked marks columns
+  pub are_touches : AreTouches selection marks table
+
 -- pairs of columns and points, with all marked ones that points before one touch
 pub record AreTouchedTo (selection : Selection) (marks : List Bool) (until : ℕ) (keys values : List ℕ) : Type 0 where
   pub pairs : ArePairs (column_count selection) (point_count selection.program) keys values

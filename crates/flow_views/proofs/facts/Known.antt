@@ -7,7 +7,7 @@ use Rattle.flow_graph.specs.Points.{point_count}
 use Rattle.flow_graph.specs.Universes.{bits}
 use Rattle.flow_graph.specs.declared.analysis.Analysis.{Analysis}
 use Rattle.flow_graph.specs.declared.analysis.Analysis.TheVariants.{Reach, Live, Avail, Busy}
-use Rattle.flow_team.specs.Excerpts.{AreFactsAt}
+use Rattle.flow_team.specs.Excerpts.{AreFactsAt, IsTableAt}
 use Rattle.flow_team.specs.Tables.{AreFacts, Facts, TableFacts, facts_of}
 use Rattle.tac_program.specs.Programs.{Program}
 use Rattle.flow_reports.specs.Reports.{IsKnowledge, Knowledge, dead_at, remarks_at, unset_at}
@@ -15,7 +15,7 @@ use Rattle.flow_reports.specs.code.Findings.{knowledge_of}
 use Rattle.flow_reports.proofs.knowledge.KnownReports.{Agree, agrees, all_is_known, all_known, same_dead, same_remarks, same_unset}
 use Rattle.flow_views.specs.ViewTables.{IsTableIfChosen, shown_table}
 use Rattle.flow_views.specs.Views.{end_shown, first_shown, known_facts, is_chosen}
-use Rattle.flow_views.specs.code.ViewProgram.{AreShown, IsShownPoint, TellSame, facts_between, facts_or, is_between, known_by, known_of}
+use Rattle.flow_views.specs.code.ViewProgram.{AreShown, IsShownPoint, IsShownTable, TellSame, facts_between, facts_or, is_between, known_by, known_of}
 use Rattle.flow_views.specs.declared.view_program.ViewProgram.{ViewProgram}
 
 -- A test that a point is among some, and what it chooses.
@@ -111,6 +111,24 @@ table_known shown analysis table is point at = subst (λ (told : Facts). TellSam
     known Live same = ap (known_by shown (knowledge_of shown.found).live) (sym same)
     known Avail same = ap (known_by shown (knowledge_of shown.found).avail) (sym same)
     known Busy same = ap (known_by shown (knowledge_of shown.found).busy) (sym same)
+
+-- and it is a table of what is shown
+pub table_of : (shown : ViewProgram) → AreShown shown → (analysis : Analysis) (table : TableFacts) → shown_table shown.tables.now analysis ≡ Some table
+    → (table.analysis ≡ analysis) × IsTableAt shown.found.graph.now (from_of shown) (until_of shown) table
+table_of shown are analysis table is =
+    subst (λ (o : Option TableFacts). IfSome o (λ (t : TableFacts). (t.analysis ≡ analysis)
+    × IsTableAt shown.found.graph.now (from_of shown) (until_of shown) t)) is (are.tables analysis).of
+
+pub table_shown : (shown : ViewProgram) → AreShown shown → (analysis : Analysis) (table : TableFacts) → shown_table shown.tables.now analysis ≡ Some table
+    → IsShownTable shown table
+table_shown shown are analysis table is =
+    let at = table_of shown are analysis table is in
+    record {
+      points = at.1.points;
+      bits = at.1.bits;
+      tells = λ point here. subst (λ (a : Analysis). TellSame (facts_of table) (known_facts (known_of shown) a) point) (sym at.0)
+          (table_known shown analysis table is point here);
+    }
 
 module _ (shown : ViewProgram) (are : AreShown shown) where
   -- all that is known

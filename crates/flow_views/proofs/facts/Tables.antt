@@ -3,13 +3,17 @@ use Rattle.std.proofs.Common.{◌≡◌, ℕ, suc, ◌+◌, ◌<◌, ◌≤◌, 
 use Rattle.std.proofs.Common.{append-nil, codes, decimal, Contains, IfSome, Option, Some, None, option_and_then, option_map, slice_get, unwrap_or}
 use Rattle.std.proofs.Common.{if◌then◌else◌, refl, sym, ap, ◌∙◌, subst, arith}
 use Rattle.std.specs.List.{list_any, range_with_len}
+use Rattle.std.specs.Prelude.{All}
 use Rattle.std.proofs.lemmas.List.{get_or-map, length-map}
+use Rattle.std.proofs.lemmas.List.Elements.{All-contains_itself}
 use Rattle.std.proofs.lemmas.List.FromFn.{length-map-range_with_len, get_or-map-range_with_len}
 use Rattle.smallvec.specs.SmallVec.{SmallVec}
 use Rattle.std.proofs.lemmas.Option.{slice_get_read}
 use Rattle.tac_program.specs.Programs.{Procedure, Program}
 use Rattle.tac_program.specs.Sound.{IsSound}
+use Rattle.tac_program.specs.declared.program.Label.{Label}
 use Rattle.tac_program.specs.declared.program.Stmt.{Stmt}
+use Rattle.tac_listing.specs.Listings.{names_in}
 use Rattle.flow_graph.specs.Edges.{edges_from}
 use Rattle.flow_graph.specs.Points.{end_place, entry_point, point_count, points, statement_at}
 use Rattle.flow_graph.specs.Universes.{bits}
@@ -24,15 +28,15 @@ use Rattle.flow_texts.specs.Tables.{bits_at}
 use Rattle.flow_reports.specs.code.Findings.{AreFindings, TellDoubtful}
 use Rattle.text_pieces.specs.code.Lists.{some_stand}
 use Rattle.flow_texts.proofs.sets.ListTexts.{map-members}
-use Rattle.flow_views.specs.Dots.{arrow, calls_at, passed_call, text_if_some}
+use Rattle.point_sets.specs.Sets.{calls_at}
+use Rattle.flow_views.specs.Dots.{arrow, passed_call, text_if_some}
 use Rattle.flow_views.specs.Json.{array, boolean, span_fields}
 use Rattle.flow_views.specs.ViewTables.{AreViewTables}
-use Rattle.flow_views.specs.Views.{end_shown, first_shown, analysis_if}
+use Rattle.flow_views.specs.Views.{end_shown, first_shown, analysis_if, labels_in}
 use Rattle.flow_views.specs.code.Names.{AreNames, numbered}
-use Rattle.flow_views.specs.code.ViewProgram.{AreShown, IsShownProcedure, IsSiteIn, contents}
+use Rattle.flow_views.specs.code.ViewProgram.{AreShown, IsShownProcedure, IsEndIn, contents}
 use Rattle.flow_views.specs.declared.names.NameForm.TheVariants.{Quoted}
 use Rattle.flow_views.specs.declared.view_program.ViewProgram.{ViewProgram}
-use Rattle.flow_views.specs.declared.view.View.{View}
 
 -- the edges of a point, as they are read from the table
 pub reads_edges : (program : Program) (lists : List (SmallVec Edge)) (point : ℕ) (list : SmallVec Edge) (edges : List Edge)
@@ -53,15 +57,22 @@ has_list program lists are =
     sym (length-map lists (λ (list : SmallVec Edge). list.items)) ∙ ap length are
     ∙ length-map-range_with_len (edges_from program) 0 (point_count program)
 
--- the call of each edge is a point
-site_in : (program : Program) (point : ℕ) (edge : Edge) → point < point_count program → IsFrom program point edge → IsSiteIn program edge
-site_in program point _ below (a_step target there) = tt
-site_in program point _ below (a_call callee there calling) = below
-site_in program point _ below (a_return site there calling none ends) = there
+-- each edge begins at a point, and the call of each is one
+end_in : (program : Program) (point : ℕ) (edge : Edge) → point < point_count program → IsFrom program point edge → IsEndIn program edge
+end_in program point _ below (a_step target there) = below
+end_in program point _ below (a_call callee there calling) = below
+end_in program point _ below (a_return site there calling none ends) = there
 
-pub sites_in : (program : Program) (point : ℕ) → IsSound program → point < point_count program → (edge : Edge)
-    → Contains (edges_from program point) edge → IsSiteIn program edge
-sites_in program point sound below edge at = site_in program point edge below (edges_from_are program sound point edge below at)
+pub ends_in : (program : Program) (point : ℕ) → IsSound program → point < point_count program → (edge : Edge)
+    → Contains (edges_from program point) edge → IsEndIn program edge
+ends_in program point sound below edge at = end_in program point edge below (edges_from_are program sound point edge below at)
+
+-- it is so of those that are read
+pub all_ends_in : (program : Program) (point : ℕ) (edges : List Edge) → IsSound program → point < point_count program
+    → edges ≡ edges_from program point → All (IsEndIn program) edges
+all_ends_in program point edges sound below is =
+    subst (λ es. All (IsEndIn program) es) (sym is)
+    (λ k d within. ends_in program point sound below (get_or (edges_from program point) k d) (All-contains_itself (edges_from program point) k d within))
 
 -- the last point of a procedure
 pub ends_below : (program : Program) (procedure : ℕ) → procedure < length program.procedures
@@ -156,6 +167,21 @@ reads_statements program procedure p statements there read is =
     slice_get_read program.procedures (length program.procedures) procedure p refl there read in
     ap length is ∙ sym (ap (λ o. length (unwrap_or (option_map (λ (q : Procedure). q.statements) o) [])) at)
 
+-- the labels of a procedure that is read, and their names
+pub reads_labels : (program : Program) (procedure : ℕ) (p : Procedure) (labels : List Label) → procedure < length program.procedures
+    → p ≡ get_or program.procedures procedure p → labels ≡ p.labels → labels ≡ labels_in program procedure
+reads_labels program procedure p labels there read is =
+    let at : slice_get program.procedures procedure ≡ Some p =
+    slice_get_read program.procedures (length program.procedures) procedure p refl there read in
+    is ∙ sym (ap (λ o. unwrap_or (option_map (λ (q : Procedure). q.labels) o) []) at)
+
+pub reads_label_names : (program : Program) (procedure : ℕ) (p : Procedure) (names : List (List ℕ)) → procedure < length program.procedures
+    → p ≡ get_or program.procedures procedure p → names ≡ p.label_names → names ≡ (names_in program procedure).labels
+reads_label_names program procedure p names there read is =
+    let at : slice_get program.procedures procedure ≡ Some p =
+    slice_get_read program.procedures (length program.procedures) procedure p refl there read in
+    is ∙ sym (ap (λ o. unwrap_or (option_map (λ (q : Procedure). q.label_names) o) []) at)
+
 -- a field of facts, part by part
 pub facts_text : {name named : List ℕ} {path reached : Bool} {numbers bits strings names : List (List ℕ)} → name ≡ named → path ≡ reached
     → numbers ≡ bits → strings ≡ names
@@ -185,15 +211,10 @@ no_span program point ends =
     ])
     ends
 
--- the edge to the point behind a call, where one procedure is shown
-pub passed_is : (program : Program) (view : View) (point procedure : ℕ) → view.procedure ≡ Some procedure → calls_at program point ≡ true
-    → arrow point (point + 1) ++ codes " [style=dashed, label=\"call\"];\n" ≡ passed_call program view point
-passed_is program view point procedure is calls =
+-- a call is joined to the point behind it
+pub passed_is : (program : Program) (point : ℕ) → calls_at program point ≡ true
+    → arrow point (point + 1) ++ codes " [style=dotted, arrowhead=none];\n" ≡ passed_call program point
+passed_is program point calls =
     let next : point + 1 ≡ suc point = omega arith in
-    ap (λ n. arrow point n ++ codes " [style=dashed, label=\"call\"];\n") next
-    ∙ sym
-    (ap (λ o. elim o [ Some p ↦ passed (calls_at program point) | None ↦ [] ]) is
-    ∙ ap passed calls)
-  where
-    passed : Bool → List ℕ
-    passed = λ b. if b then arrow point (suc point) ++ codes " [style=dashed, label=\"call\"];\n" else []
+    ap (λ n. arrow point n ++ codes " [style=dotted, arrowhead=none];\n") next
+    ∙ sym (ap (λ (b : Bool). if b then arrow point (suc point) ++ codes " [style=dotted, arrowhead=none];\n" else []) calls)

@@ -1,9 +1,9 @@
 -- The texts of what the code's tables and answers tell are those of all that is known.
-use Rattle.std.proofs.Common.{◌≡◌, ◌∙◌, ℕ, zero, suc, ◌+◌, ◌<◌, ◌≤◌, Bool, true, false, List, [], ◌∷◌, ◌++◌, length, map, flat_map, Option, Some}
-use Rattle.std.proofs.Common.{None, IfSome, if◌then◌else◌, cond, codes, decimal, refl, sym, ap, arith}
+use Rattle.std.proofs.Common.{◌≡◌, ◌∙◌, ℕ, zero, suc, ◌+◌, ◌-◌, ◌<◌, ◌≤◌, Bool, true, false, List, [], ◌∷◌, ◌++◌, length, map, flat_map}
+use Rattle.std.proofs.Common.{◌&&◌, Contains, Option, Some, None, IfSome, if◌then◌else◌, cond, codes, decimal, refl, sym, ap, subst, arith}
 use Rattle.std.specs.List.{filter, range_with_len}
 use Rattle.std.proofs.lemmas.Grind.{flat_map-append}
-use Rattle.std.proofs.lemmas.List.Concat.{flat_map_single}
+use Rattle.flow_graph.specs.Analyses.{main_procedure}
 use Rattle.flow_graph.specs.Edges.{edges_from}
 use Rattle.flow_graph.specs.Points.{end_place, entry_point, place_of, point_count, procedure_at}
 use Rattle.flow_graph.specs.Universes.{bits}
@@ -12,18 +12,30 @@ use Rattle.flow_graph.specs.declared.analysis.TheConstants.Analysis as all
 use Rattle.flow_reports.specs.Reports.{Knowledge, remark_text, remarks_at}
 use Rattle.flow_reports.specs.declared.remark.Remark.{Remark}
 use Rattle.flow_texts.specs.Tables.{bit_text, listed}
+use Rattle.flow_graph.specs.Paths.{target_of}
+use Rattle.flow_graph.proofs.lists.Membership.{Contains-first, Contains-later, Contains-one}
+use Rattle.point_sets.specs.Sets.{has_behind, set_on, shown_bits, side_text}
+use Rattle.point_sets.specs.declared.side.Side.{Side}
+use Rattle.point_sets.specs.declared.side.Side.TheVariants.{Before, Behind}
+use Rattle.std.proofs.lemmas.Bool.{and_parts}
 use Rattle.flow_reports.proofs.knowledge.KnownReports.{Agree, same_dead, same_remarks, same_texts, same_unset}
+use Rattle.flow_graph.proofs.graphs.GraphLaws.{graphs_are_well_formed}
 use Rattle.tac_program.specs.Programs.{Program}
 use Rattle.tac_program.specs.Sound.{IsSound}
-use Rattle.flow_views.specs.Dots.{cluster, dot_of, edge_lines, fact_line, head, label_line, label_lines, marks, node, open_dot, path_marks, text_if_some, title}
-use Rattle.flow_views.specs.Json.{array, boolean, edge_object, facts_field, json_of, json_with, point_line, program_line, remark_object}
+use Rattle.flow_views.specs.Dots.{all_clusters, behind_if, cluster, dot_of, edge_lines, fact_line, fact_lines, head, label_line, label_lines, label_title}
+use Rattle.flow_views.specs.Dots.{marks, node, sides}
+use Rattle.flow_views.specs.Dots.{open_dot, path_marks, shown_clusters, text_if_some, title}
+use Rattle.flow_views.specs.Json.{array, boolean, end_line, facts_field, json_of, json_with, point_edge, point_line, program_line, remark_object}
 use Rattle.flow_views.specs.Json.{span_fields, statement_field}
 use Rattle.text_pieces.specs.Strings.{quoted}
-use Rattle.flow_views.specs.Views.{analysis_name, chosen_analyses, points_in, procedure_name, shown_points, shown_procedures, known_facts, is_chosen}
+use Rattle.flow_views.specs.Views.{analysis_name, chosen_analyses, is_chosen, known_facts, label_name, labels_at, points_in, procedure_name}
+use Rattle.flow_views.specs.Views.{shown_points}
 use Rattle.flow_views.specs.Views.{end_shown, first_shown}
 use Rattle.flow_views.specs.code.ViewProgram.{IsShownProcedure, TellSame}
 use Rattle.flow_views.specs.declared.view.Chosen.{Chosen}
+use Rattle.flow_views.specs.declared.view.Look.{Look}
 use Rattle.flow_views.specs.declared.view.View.{View}
+use Rattle.flow_views.proofs.facts.Behind.{next_shown, same_set_on}
 use Rattle.flow_views.proofs.facts.Tables.{ends_below, shown_within}
 
 -- of the elements that pass a test
@@ -43,12 +55,22 @@ same_chosen : {A : Type 0} (f g : Analysis → List A) (chosen : Chosen)
     → flat_map f (chosen_analyses chosen) ≡ flat_map g (chosen_analyses chosen)
 same_chosen f g chosen same = same_filtered f g (is_chosen chosen) all.ALL same
 
-same_lines : (f g : Analysis → List ℕ) (chosen : Chosen) → ((analysis : Analysis) → is_chosen chosen analysis ≡ true → f analysis ≡ g analysis)
-    → map f (chosen_analyses chosen) ≡ map g (chosen_analyses chosen)
-same_lines f g chosen same =
-    sym (flat_map_single f (chosen_analyses chosen))
-    ∙ same_chosen (λ a. f a ∷ []) (λ a. g a ∷ []) chosen (λ a is. ap (λ t. t ∷ []) (same a is))
-    ∙ flat_map_single g (chosen_analyses chosen)
+-- of the sides of a point, of which the one behind stands there only for a statement that is no call
+same_mapped : {A B : Type 0} (f g : A → B) (xs : List A) → ((x : A) → Contains xs x → f x ≡ g x) → map f xs ≡ map g xs
+same_mapped f g [] same = refl
+same_mapped f g (x ∷ xs) same =
+    let first = same x (Contains-first x xs) in
+    let rest = same_mapped f g xs (λ y among. same y (Contains-later x xs y among)) in
+    λ i. first i ∷ rest i
+
+behind_there : (program : Program) (view : View) (point : ℕ) (side : Side) → side ≡ Behind → Contains (sides program view point) side
+    → has_behind program point ≡ true
+behind_there program view point side is among = by_test (view.look.behind && has_behind program point) refl
+    (subst (λ s. Contains (sides program view point) s) is among)
+  where
+    by_test : (b : Bool) → (view.look.behind && has_behind program point) ≡ b → Contains (Before ∷ behind_if b) Behind → has_behind program point ≡ true
+    by_test true test at = (and_parts view.look.behind (has_behind program point) test).1
+    by_test false test at = absurd (cc (Contains-one Before Behind at))
 
 -- a point that is shown is one of the program
 shown_below : (program : Program) (procedure : Option ℕ) → IfSome procedure (λ p. p < length program.procedures) → (point : ℕ)
@@ -84,33 +106,26 @@ same_procedures program procedure f g same first (suc n) there are =
 
 same_shown : (program : Program) (procedure : Option ℕ) → IfSome procedure (λ p. p < length program.procedures) → (f g : ℕ → List ℕ)
     → ((point : ℕ) → (first_shown program procedure ≤ point) × (point < end_shown program procedure) → f point ≡ g point)
-    → (facts : Chosen)
-    → flat_map f (shown_points program (record { facts = facts; procedure = procedure }))
-    ≡ flat_map g (shown_points program (record { facts = facts; procedure = procedure }))
-same_shown program None there f g same facts =
+    → (facts : Chosen) (look : Look)
+    → flat_map f (shown_points program (record { facts = facts; procedure = procedure; look = look }))
+    ≡ flat_map g (shown_points program (record { facts = facts; procedure = procedure; look = look }))
+same_shown program None there f g same facts look =
     same_procedures program None f g same 0 (length program.procedures) (omega arith) (λ number low high. tt)
-same_shown program (Some procedure) there f g same facts =
+same_shown program (Some procedure) there f g same facts look =
     same_procedures program (Some procedure) f g same procedure 1 (omega (arith, there)) (λ number low high. omega (arith, low, high))
-
--- of procedures
-same_clusters : (program : Program) (procedure : Option ℕ) → IfSome procedure (λ p. p < length program.procedures) → (f g : ℕ → List ℕ)
-    → ((number : ℕ) → number < length program.procedures → IsShownProcedure procedure number → f number ≡ g number)
-    → (facts : Chosen)
-    → flat_map f (shown_procedures program (record { facts = facts; procedure = procedure }))
-    ≡ flat_map g (shown_procedures program (record { facts = facts; procedure = procedure }))
-same_clusters program None there f g same facts =
-    same_texts f g 0 (length program.procedures) (λ k from to. same k (omega (arith, to)) tt)
-same_clusters program (Some procedure) there f g same facts = ap (λ t. t ++ []) (same procedure there refl)
 
 -- the bits of a set
 abbrev members : Program → Analysis → (ℕ → Bool) → List ℕ
 members program analysis set = filter set (range_with_len 0 (bits program analysis))
 
 module _ (program : Program) (sound : IsSound program) (one other : Knowledge) (agree : Agree program one other) (chosen : Chosen)
-    (procedure : Option ℕ) (there : IfSome procedure (λ p. p < length program.procedures))
+    (procedure : Option ℕ) (look : Look) (there : IfSome procedure (λ p. p < length program.procedures))
     (told : (analysis : Analysis) → is_chosen chosen analysis ≡ true → (point : ℕ)
     → (first_shown program procedure ≤ point) × (point < end_shown program procedure)
     → TellSame (known_facts one analysis) (known_facts other analysis) point) where
+  abbrev view : View
+  view = record { facts = chosen; procedure = procedure; look = look }
+
   same_fields : (point : ℕ) → (first_shown program procedure ≤ point) × (point < end_shown program procedure)
       → flat_map (facts_field program one point) (chosen_analyses chosen) ≡ flat_map (facts_field program other point) (chosen_analyses chosen)
   same_fields point at =
@@ -127,46 +142,61 @@ module _ (program : Program) (sound : IsSound program) (one other : Knowledge) (
 
   same_point : (point : ℕ) → (first_shown program procedure ≤ point) × (point < end_shown program procedure)
       → point_line program one chosen point ≡ point_line program other chosen point
-  same_point point at = ap
-      (λ fields. codes "{\"type\":\"point\",\"point\":" ++ decimal point
+  same_point point at =
+      let fields = same_fields point at in
+      let doubtful = agree.doubtful point (shown_below program procedure there point at) in
+      λ i. codes "{\"type\":\"point\",\"point\":" ++ decimal point
       ++ codes ",\"procedure\":" ++ quoted (procedure_name program (procedure_at program point))
       ++ codes ",\"place\":" ++ decimal (place_of program point).place
       ++ span_fields program point
+      ++ (codes ",\"labels\":" ++ array (map (λ label. quoted (label_name program point label)) (labels_at program point))
       ++ codes ",\"statement\":" ++ statement_field program point
-      ++ codes ",\"edges\":" ++ array (map edge_object (edges_from program point))
-      ++ fields ++ codes "}\n")
-      (same_fields point at)
+      ++ codes ",\"doubtful\":" ++ boolean (doubtful i)
+      ++ codes ",\"edges\":" ++ array (map (point_edge program) (edges_from program point)))
+      ++ fields i ++ codes "}\n"
 
   -- the lines of JSON, with the remarks in any form
-  pub same_json_with : (object : Program → ℕ → Remark → List ℕ) → json_with object program one (record { facts = chosen; procedure = procedure })
-      ≡ json_with object program other (record { facts = chosen; procedure = procedure })
+  pub same_json_with : (object : Program → ℕ → Remark → List ℕ) → json_with object program one view
+      ≡ json_with object program other view
   same_json_with object =
       let points = same_shown program procedure there (point_line program one chosen) (point_line program other chosen)
-      (λ point at. same_point point at) chosen in
+      (λ point at. same_point point at) chosen look in
       let remarks = same_shown program procedure there (λ point. flat_map (object program point) (remarks_at program one point))
       (λ point. flat_map (object program point) (remarks_at program other point))
       (λ point at. ap (flat_map (object program point))
-      (same_remarks program sound one other agree point (shown_below program procedure there point at))) chosen in
+      (same_remarks program sound one other agree point (shown_below program procedure there point at))) chosen look in
       λ i. program_line program ++ points i ++ remarks i
 
-  pub same_json : json_of program one (record { facts = chosen; procedure = procedure })
-      ≡ json_of program other (record { facts = chosen; procedure = procedure })
-  same_json = same_json_with remark_object
+  pub same_json : json_of program one view ≡ json_of program other view
+  same_json = ap (λ text. text ++ end_line program view) (same_json_with remark_object)
 
   module _ (point : ℕ) (at : (first_shown program procedure ≤ point) × (point < end_shown program procedure)) where
     below : point < point_count program
     below = shown_below program procedure there point at
 
-    same_label : label_lines program one chosen point ≡ label_lines program other chosen point
-    same_label =
-        let lines = same_lines (fact_line program one point) (fact_line program other point) chosen
-        (λ analysis is. ap (λ (set : ℕ → Bool). line analysis set) (told analysis is point at).set) in
-        λ i. title program point ∷ map (remark_text program) (same_remarks program sound one other agree point below i) ++ lines i
+    -- the sets of an analysis on both sides of a statement
+    same_set : (analysis : Analysis) → is_chosen chosen analysis ≡ true → (side : Side) → Contains (sides program view point) side
+        → set_on side program analysis (known_facts one analysis) point ≡ set_on side program analysis (known_facts other analysis) point
+    same_set analysis is side among =
+        same_set_on program (known_facts one analysis) (known_facts other analysis) point (told analysis is point at) analysis side
+        (λ behind edge leads. told analysis is (target_of edge)
+        (next_shown program sound procedure there point below at (behind_there program view point side behind among) edge leads))
+
+    same_lines_of : (analysis : Analysis) → is_chosen chosen analysis ≡ true
+        → fact_lines program one view point analysis ≡ fact_lines program other view point analysis
+    same_lines_of analysis is = same_mapped (fact_line program one view point analysis) (fact_line program other view point analysis)
+        (sides program view point)
+        (λ side among. ap (λ (set : ℕ → Bool). line analysis side set) (same_set analysis is side among))
       where
-        line : Analysis → (ℕ → Bool) → List ℕ
-        line analysis set =
-            analysis_name analysis ++ codes ": "
-            ++ listed (map (bit_text program analysis) (members program analysis set))
+        line : Analysis → Side → (ℕ → Bool) → List ℕ
+        line analysis side set =
+            analysis_name analysis ++ side_text side
+            ++ listed (map (bit_text program analysis) (shown_bits program analysis look.hides_entry set))
+
+    same_label : label_lines program one view point ≡ label_lines program other view point
+    same_label =
+        let lines = same_chosen (fact_lines program one view point) (fact_lines program other view point) chosen same_lines_of in
+        λ i. map (label_title program point) (labels_at program point) ++ title program point ∷ map (remark_text program) (same_remarks program sound one other agree point below i) ++ lines i
 
     same_path_marks : path_marks program one point ≡ path_marks program other point
     same_path_marks = λ i.
@@ -178,27 +208,43 @@ module _ (program : Program) (sound : IsSound program) (one other : Knowledge) (
     same_marks : marks program one point ≡ marks program other point
     same_marks = λ i. same_path_marks i ++ (if agree.doubtful point below i then codes ", peripheries=2" else [])
 
-    same_node : node program one chosen point ≡ node program other chosen point
+    same_node : node program one view point ≡ node program other view point
     same_node = λ i.
         codes "    " ++ decimal point ++ codes " [label=\"" ++ flat_map label_line (same_label i) ++ codes "\""
         ++ same_marks i ++ codes "];\n"
 
   same_cluster : (number : ℕ) → number < length program.procedures → IsShownProcedure procedure number
-      → cluster program one chosen number ≡ cluster program other chosen number
+      → cluster program one view number ≡ cluster program other view number
   same_cluster number below is = ap
       (λ nodes. codes "  subgraph \"cluster_" ++ decimal number ++ codes "\" {\n"
       ++ codes "    label=" ++ quoted (procedure_name program number) ++ codes ";\n"
       ++ nodes ++ codes "  }\n")
-      (same_points program procedure (node program one chosen) (node program other chosen) same_node number below is)
+      (same_points program procedure (node program one view) (node program other view) same_node number below is)
+
+  -- those of all procedures, where none is named
+  same_all : procedure ≡ None → all_clusters program one view ≡ all_clusters program other view
+  same_all all =
+      let main : ℕ = main_procedure program in
+      let same = λ (number : ℕ) (below : number < length program.procedures). same_cluster number below
+      (subst (λ (p : Option ℕ). IsShownProcedure p number) (sym all) tt) in
+      let inside : main < length program.procedures = (graphs_are_well_formed program sound).root_in_range in
+      let first = same main inside in
+      let before = same_texts (cluster program one view) (cluster program other view) 0 main
+      (λ number from to. same number (omega (arith, to, inside))) in
+      let behind = same_texts (cluster program one view) (cluster program other view) (main + 1) (length program.procedures - (main + 1))
+      (λ number from to. same number (omega (arith, from, to, inside))) in
+      λ i. first i ++ before i ++ behind i
+
+  same_clusters : (p : Option ℕ) → procedure ≡ p → shown_clusters program one view p ≡ shown_clusters program other view p
+  same_clusters None is = same_all is
+  same_clusters (Some number) is =
+      same_cluster number (subst (λ (p : Option ℕ). IfSome p (λ n. n < length program.procedures)) is there)
+      (subst (λ (p : Option ℕ). IsShownProcedure p number) (sym is) refl)
 
   -- the picture, without its last line and with it
-  pub same_open : open_dot program one (record { facts = chosen; procedure = procedure })
-      ≡ open_dot program other (record { facts = chosen; procedure = procedure })
+  pub same_open : open_dot program one view ≡ open_dot program other view
   same_open =
-      let view : View = record { facts = chosen; procedure = procedure } in
-      ap (λ clusters. head ++ clusters ++ flat_map (edge_lines program view) (shown_points program view))
-      (same_clusters program procedure there (cluster program one chosen) (cluster program other chosen) same_cluster chosen)
+      ap (λ clusters. head ++ clusters ++ flat_map (edge_lines program view) (shown_points program view)) (same_clusters procedure refl)
 
-  pub same_dot : dot_of program one (record { facts = chosen; procedure = procedure })
-      ≡ dot_of program other (record { facts = chosen; procedure = procedure })
+  pub same_dot : dot_of program one view ≡ dot_of program other view
   same_dot = ap (λ text. text ++ codes "}\n") same_open

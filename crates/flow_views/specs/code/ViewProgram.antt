@@ -5,6 +5,7 @@ use Rattle.std.specs.List.{range_with_len}
 use Rattle.smallvec.specs.SmallVec.{SmallVec}
 use Rattle.flow_graph.specs.Edges.{edges_from}
 use Rattle.flow_graph.specs.Points.{point_count, points}
+use Rattle.flow_graph.specs.Universes.{bits}
 use Rattle.flow_graph.specs.declared.analysis.Analysis.TheVariants.{Reach, Live, Avail, Busy}
 use Rattle.flow_graph.specs.declared.edge.Edge.{Edge}
 use Rattle.flow_graph.specs.declared.edge.Edge.TheVariants.{Step, Call, Ret}
@@ -15,7 +16,7 @@ use Rattle.tac_program.specs.Programs.{Program}
 use Rattle.flow_views.specs.code.Names.{AreNames}
 use Rattle.flow_views.specs.declared.view_program.Numbers.{Numbers}
 use Rattle.flow_views.specs.ViewTables.{AreViewTables, shown_table}
-use Rattle.flow_views.specs.Views.{end_shown, first_shown}
+use Rattle.flow_views.specs.Views.{end_shown, first_shown, known_facts}
 use Rattle.flow_views.specs.declared.view_program.ViewProgram.{ViewProgram}
 
 -- the edges that a table holds for each point
@@ -86,8 +87,14 @@ pub record TellSame (one other : Facts) (point : ℕ) : Type 0 where
   pub path : one.has_path point ≡ other.has_path point
   pub set : one.contains point ≡ other.contains point
 
--- the call of an edge is a point
-abbrev pub IsSiteIn : Program → Edge → Type 0
-IsSiteIn program (Step source target) = Unit {0}
-IsSiteIn program (Call site source target) = site < point_count program
-IsSiteIn program (Ret site source target) = site < point_count program
+-- The table is one of an analysis of the program, at the points that are shown, where it tells what is known.
+pub record IsShownTable (shown : ViewProgram) (table : TableFacts) : Type 0 where
+  pub points : length table.paths ≡ end_shown shown.found.graph.now shown.view.procedure
+  pub bits : table.bits ≡ bits shown.found.graph.now table.analysis
+  pub tells : (point : ℕ) → IsShownPoint shown point → TellSame (facts_of table) (known_facts (known_of shown) table.analysis) point
+
+-- the point from which a step goes, and the call of another edge, are points
+abbrev pub IsEndIn : Program → Edge → Type 0
+IsEndIn program (Step source target) = source < point_count program
+IsEndIn program (Call site source target) = site < point_count program
+IsEndIn program (Ret site source target) = site < point_count program

@@ -12,6 +12,7 @@ use Rattle.flow_why.specs.code.Frames.{question_of, transfer_for}
 use Rattle.flow_why.specs.code.Marked.{BaseHas, is_inner}
 use Rattle.flow_why.specs.code.Moves.{Lead, effect_between}
 use Rattle.flow_why.specs.code.Trails.{AreHops, AreInnerHops, claim_effect}
+use Rattle.flow_why.specs.code.Closed.{Scope, whole_scope}
 use Rattle.flow_why.specs.code.Ways.{IsAnsweredIn}
 use Rattle.flow_why.specs.declared.claim.Claim.{Claim}
 use Rattle.flow_why.specs.declared.claim.Claim.TheVariants as claim
@@ -52,7 +53,7 @@ module _ (shape : Shape) (transfer : Transfer) (well : IsWellFormed shape) (p : 
       through_of shape transfer v w p hops
       (subst (λ x. Lead shape transfer true x v hops (shape.exit p) w) (at_entry start q low at (lead.inside refl)) lead)
 
-module _ (frame : Frame) (found : Found) (is : IsAnsweredIn frame found) (p : ℕ) where
+module _ (frame : Frame) (found : Found) (is : IsAnsweredIn frame found) (whole : (question_of frame).scope ≡ whole_scope) (p : ℕ) where
   based_exit : (c : Claim) (site x : ℕ) → CallsAt (question_of frame).shape site x p → BaseHas frame.base.now c x
       → BaseHas frame.base.now claim.Generated ((question_of frame).shape.entry ((question_of frame).shape.procedure_of
       ((question_of frame).shape.exit p)))
@@ -75,7 +76,7 @@ module _ (frame : Frame) (found : Found) (is : IsAnsweredIn frame found) (p : �
   pub never_generated : (Has found claim.Generated ((question_of frame).shape.exit p) → ⊥)
       → IsNeverPassed (question_of frame).shape (transfer_for frame) p Generates
   never_generated never site x path call may through =
-      never (all_generated (question_of frame).shape (transfer_for frame) is.asked.formed.numbered.formed (BaseHas frame.base.now)
+      never (all_generated (question_of frame).shape (transfer_for frame) (question_of frame).scope is.asked.formed.numbered.formed (BaseHas frame.base.now)
       (Has found)
       is.complete.closed is.complete.begun is.ground ((question_of frame).shape.exit p)
       (generated_exit (question_of frame).shape (transfer_for frame) is.asked.formed.numbered.formed p call.0 path through)
@@ -85,12 +86,13 @@ module _ (frame : Frame) (found : Found) (is : IsAnsweredIn frame found) (p : �
       → IsNeverPassed (question_of frame).shape (transfer_for frame) p Preserves
   never_preserved never site x path call may through =
       let member = (solution_is_meet (question_of frame).shape (transfer_for frame) x is.asked.formed.numbered.formed).1.1 may in
-      never (all_preserved (question_of frame).shape (transfer_for frame) is.asked.formed.numbered.formed (BaseHas frame.base.now)
+      never (all_preserved (question_of frame).shape (transfer_for frame) (question_of frame).scope is.asked.formed.numbered.formed (BaseHas frame.base.now)
       (Has found)
       is.complete.closed ((question_of frame).shape.exit p)
       (preserved_exit (question_of frame).shape (transfer_for frame) is.asked.formed.numbered.formed p call.0 path through)
       (subst (λ q. Has found claim.Preserved ((question_of frame).shape.entry q)) (sym (is.asked.formed.numbered.formed.exit_inside p call.0))
-      (is.complete.closed.begin claim.Holds site x p call (found_all frame found is x member))))
+      (is.complete.closed.begin claim.Holds site x p call (ap (λ (s : Scope). s.kept p) whole)
+      (found_all frame found is x member (ap (λ (s : Scope). s.skipped ((question_of frame).shape.procedure_of x)) whole)))))
 
   pub never_found : (c : Claim) → is_inner c ≡ true → (Has found c ((question_of frame).shape.exit p) → ⊥)
       → IsNeverPassed (question_of frame).shape (transfer_for frame) p (claim_effect c)

@@ -152,8 +152,8 @@ module _ (frame : Frame) (is : IsFrame frame) (old mid new : Found) (c : Claim) 
       (question_of frame) c x p mid new
   call_of d site y p here call = visited.calls site p (subst (λ z. CallsAt (question_of frame).shape site z p) here.1 call)
 
-  pub closed_more : IsClosed (question_of frame).shape (transfer_for frame) (BaseHas frame.base.now) (HasTaken old) (Has old)
-      → IsClosed (question_of frame).shape (transfer_for frame) (BaseHas frame.base.now) (HasTaken new) (Has new)
+  pub closed_more : IsClosed (question_of frame).shape (transfer_for frame) (question_of frame).scope (BaseHas frame.base.now) (HasTaken old) (Has old)
+      → IsClosed (question_of frame).shape (transfer_for frame) (question_of frame).scope (BaseHas frame.base.now) (HasTaken new) (Has new)
   closed_more closed = record {
     step = λ d y z edge unkilled at. elim (seen d y at) [
       | inl before ↦ from_old d z (closed.step d y z edge unkilled before)
@@ -161,13 +161,19 @@ module _ (frame : Frame) (is : IsFrame frame) (old mid new : Found) (c : Claim) 
           (visited.steps z (subst (λ s. IsEdge (question_of frame).shape (Step s z)) here.1 edge)
           (subst (λ s. (transfer_for frame).kill s z ≡ false) here.1 unkilled))
     ];
-    begin = λ d site y p call at. elim (seen d y at) [
-      | inl before ↦ from_old claim.Preserved ((question_of frame).shape.entry p) (closed.begin d site y p call before)
-      | inr here ↦ (call_of d site y p here call).begin
+    begin = λ d site y p call unkept at. elim (seen d y at) [
+      | inl before ↦ from_old claim.Preserved ((question_of frame).shape.entry p) (closed.begin d site y p call unkept before)
+      | inr here ↦ (call_of d site y p here call).begin unkept
     ];
-    enter = λ site y p call at. elim (seen claim.Holds y at) [
-      | inl before ↦ from_old claim.Holds ((question_of frame).shape.entry p) (closed.enter site y p call before)
-      | inr here ↦ (call_of claim.Holds site y p here call).enter (sym here.0)
+    enter = λ site y p call into at. elim (seen claim.Holds y at) [
+      | inl before ↦ from_old claim.Holds ((question_of frame).shape.entry p) (closed.enter site y p call into before)
+      | inr here ↦ (call_of claim.Holds site y p here call).enter (sym here.0) into
+    ];
+    keep = λ d site y p z call return kept at. elim (seen d y at) [
+      | inl before ↦ from_old d z (closed.keep d site y p z call return kept before)
+      | inr here ↦ subst (Has new d) (sym (after_is frame is site y p z call return))
+          (subst (λ s. Has new d (call_after frame.links.now.backward s)) (sym here.1)
+          (subst (λ e. Has new e (call_after frame.links.now.backward x)) (sym here.0) ((call_of d site y p here call).keep kept)))
     ];
     pass = λ d site y p z call return at through. elim (seen d y at) [
       | inr here ↦ subst (Has new d) (sym (after_is frame is site y p z call return))
@@ -220,11 +226,12 @@ module _ (points : ℕ) (old new : Found) (blank : old ≡ nothing_found points)
   blank_orderly = record { each = λ c. let none = none_taken c in omega (arith, none) }
 
   pub blank_closed : (frame : Frame)
-      → IsClosed (question_of frame).shape (transfer_for frame) (BaseHas frame.base.now) (HasTaken new) (Has new)
+      → IsClosed (question_of frame).shape (transfer_for frame) (question_of frame).scope (BaseHas frame.base.now) (HasTaken new) (Has new)
   blank_closed frame = record {
     step = λ d y z edge unkilled at. absurd (never d y at);
-    begin = λ d site y p call at. absurd (never d y at);
-    enter = λ site y p call at. absurd (never claim.Holds y at);
+    begin = λ d site y p call unkept at. absurd (never d y at);
+    enter = λ site y p call into at. absurd (never claim.Holds y at);
+    keep = λ d site y p z call return kept at. absurd (never d y at);
     pass = λ d site y p z call return at through. absurd (never d y at);
     generate = λ d site y p z call return based through. absurd (never claim.Generated _ through);
   }
@@ -242,13 +249,14 @@ visit_falls old mid new c x taken grows =
 
 -- where nothing is left, all that was found was taken up
 pub complete_of : (frame : Frame) (found : Found) → ((c : Claim) → AreTaken (marks_of found c))
-    → IsClosed (question_of frame).shape (transfer_for frame) (BaseHas frame.base.now) (HasTaken found) (Has found)
+    → IsClosed (question_of frame).shape (transfer_for frame) (question_of frame).scope (BaseHas frame.base.now) (HasTaken found) (Has found)
     → IsBegun (question_of frame).shape (transfer_for frame) (BaseHas frame.base.now) (Has found) → IsComplete (question_of frame) found
 complete_of frame found all closed begun = record {
   closed = record {
     step = λ d y z edge unkilled at. closed.step d y z edge unkilled (taken d y at);
-    begin = λ d site y p call at. closed.begin d site y p call (taken d y at);
-    enter = λ site y p call at. closed.enter site y p call (taken claim.Holds y at);
+    begin = λ d site y p call unkept at. closed.begin d site y p call unkept (taken d y at);
+    enter = λ site y p call into at. closed.enter site y p call into (taken claim.Holds y at);
+    keep = λ d site y p z call return kept at. closed.keep d site y p z call return kept (taken d y at);
     pass = λ d site y p z call return at through. closed.pass d site y p z call return (taken d y at) (taken claim.Preserved _ through);
     generate = λ d site y p z call return based through. closed.generate d site y p z call return based (taken claim.Generated _ through);
   };

@@ -1,5 +1,5 @@
 -- Parts of visits, put together
-use Rattle.std.proofs.Common.{◌≡◌, ℕ}
+use Rattle.std.proofs.Common.{◌≡◌, ℕ, true, false}
 use Rattle.summary_equations.specs.Equations.{CallsAt}
 use Rattle.flow_why.specs.code.Found.{Found, Grows, Has}
 use Rattle.flow_why.specs.code.Frames.{call_after}
@@ -13,8 +13,9 @@ use Rattle.flow_why.proofs.visits.Growing.{grows_on, has_on, still}
 pub call_visited_on : (question : Question) (c : Claim) (x p : ℕ) (a b d e : Found) → Grows a b → Grows d e → IsCallVisited question c x p b d
     → IsCallVisited question c x p a e
 call_visited_on question c x p a b d e before behind is = record {
-  begin = has_on d e claim.Preserved (question.shape.entry p) behind is.begin;
-  enter = λ same. has_on d e claim.Holds (question.shape.entry p) behind (is.enter same);
+  begin = λ unkept. has_on d e claim.Preserved (question.shape.entry p) behind (is.begin unkept);
+  enter = λ same into. has_on d e claim.Holds (question.shape.entry p) behind (is.enter same into);
+  keep = λ kept. has_on d e c (call_after question.backward x) behind (is.keep kept);
   pass = λ through. has_on d e c (call_after question.backward x) behind
       (is.pass (has_on a b claim.Preserved (question.shape.exit p) before through));
 }
@@ -76,12 +77,15 @@ both_generated question x y b d second generated holds claim.Preserved gens base
 both_generated question x y b d second generated holds claim.Generated gens based = has_on b d claim.Generated y second (generated based)
 both_generated question x y b d second generated holds claim.Holds gens based = holds based
 
--- a call whose callee was begun, entered, and passed if it keeps the bit
-pub call_visited : (question : Question) (c : Claim) (x p : ℕ) (a b d e : Found) → Grows a b → Grows b d → Grows d e
-    → Has b claim.Preserved (question.shape.entry p) → (c ≡ claim.Holds → Has d claim.Holds (question.shape.entry p))
-    → (Has d claim.Preserved (question.shape.exit p) → Has e c (call_after question.backward x)) → IsCallVisited question c x p a e
-call_visited question c x p a b d e first second third begun entered passed = record {
-  begin = has_on b e claim.Preserved (question.shape.entry p) (grows_on b d e second third) begun;
-  enter = λ same. has_on d e claim.Holds (question.shape.entry p) third (entered same);
-  pass = λ through. passed (has_on a d claim.Preserved (question.shape.exit p) (grows_on a b d first second) through);
+-- a call whose callee was entered, and then begun, and passed if it keeps the bit
+pub call_visited : (question : Question) (c : Claim) (x p : ℕ) (a b d : Found) → Grows a b → Grows b d
+    → (c ≡ claim.Holds → question.scope.skipped p ≡ false → Has b claim.Holds (question.shape.entry p))
+    → (question.scope.kept p ≡ false → Has d claim.Preserved (question.shape.entry p))
+    → (Has b claim.Preserved (question.shape.exit p) → Has d c (call_after question.backward x))
+    → (question.scope.kept p ≡ true → Has d c (call_after question.backward x)) → IsCallVisited question c x p a d
+call_visited question c x p a b d first second entered begun passed kept = record {
+  begin = begun;
+  enter = λ same into. has_on b d claim.Holds (question.shape.entry p) second (entered same into);
+  pass = λ through. passed (has_on a b claim.Preserved (question.shape.exit p) first through);
+  keep = kept;
 }

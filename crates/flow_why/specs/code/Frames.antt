@@ -1,15 +1,15 @@
 -- What a frame says of the question that a search answers.
-use Rattle.std.specs.Prelude.{◌≡◌, ◌<◌, ◌≤◌, ◌-◌, ℕ, Bool, true, false, if◌then◌else◌}
+use Rattle.std.specs.Prelude.{◌≡◌, ◌<◌, ◌≤◌, ◌-◌, ℕ, Bool, true, false, slice_index_or, if◌then◌else◌}
 use Rattle.flow_graph.specs.declared.edge.Edge.TheVariants.{Call}
 use Rattle.flow_graph.specs.Paths.{Transfer, IsEdge}
 use Rattle.flow_graph.specs.Points.{point_count}
 use Rattle.flow_links.specs.Shapes.{IsNumbered, LinkedProgram, after_site, directed_shape}
 use Rattle.gen_kill.specs.Selections.{Selection, column_count, column_transfer}
 use Rattle.tac_program.specs.Programs.{Program}
-use Rattle.summary_equations.specs.Equations.{HasFlag, Reached}
+use Rattle.summary_equations.specs.Equations.{HasFlag, Preserved, Reached}
 use Rattle.flow_why.specs.Directed.{direction_of}
 use Rattle.flow_why.specs.PointBits.{StatementBit, point_transfer, step_statement}
-use Rattle.flow_why.specs.code.Closed.{idle_transfer}
+use Rattle.flow_why.specs.code.Closed.{Scope, idle_transfer}
 use Rattle.flow_why.specs.code.Found.{marks_of}
 use Rattle.flow_why.specs.code.Marked.{BaseHas, Question}
 use Rattle.flow_why.specs.declared.claim.Claim.{Claim}
@@ -46,6 +46,13 @@ IsAskedOf linked Paths = Unit {0}
 IsAskedOf linked (Column problem column) = (linked ≡ direction_of problem.now) × (column < column_count problem.now)
 IsAskedOf linked (Points graph bit) = graph.now ≡ linked.program
 
+-- what its search leaves out
+abbrev pub scope_of : Frame → Scope
+scope_of frame = record {
+  skipped = λ p. slice_index_or frame.scope.skipped.now p false;
+  kept = λ p. slice_index_or frame.scope.kept.now p false;
+}
+
 -- the question of a frame
 abbrev pub question_of : Frame → Question
 question_of frame = record {
@@ -55,6 +62,7 @@ question_of frame = record {
   transfer = transfer_for frame;
   value = is_asked frame.asked;
   base = frame.base.now;
+  scope = scope_of frame;
 }
 
 -- the ends of a program's step in a direction
@@ -72,7 +80,7 @@ call_site backward x = if backward then x - 1 else x
 abbrev pub call_after : Bool → ℕ → ℕ
 call_after backward x = after_site backward (call_site backward x)
 
--- what a frame is: edges, what is asked of them, and where their paths lead
+-- what a frame is: edges, what is asked of them, where their paths lead, and procedures that keep the bit
 pub record IsFrame (frame : Frame) : Type 0 where
   pub asked : IsAskedOf frame.links.now frame.asked
   pub few : point_count frame.links.now.program ≤ 1048576
@@ -81,6 +89,8 @@ pub record IsFrame (frame : Frame) : Type 0 where
   pub base : (c : Claim) → (marks_of frame.base.now c).points ≡ point_count frame.links.now.program
   pub flags : (x : ℕ) → BaseHas frame.base.now claim.Holds x → HasFlag (directed_shape frame.links.now) x
   pub reaches : (x : ℕ) → BaseHas frame.base.now claim.Generated x → Reached (directed_shape frame.links.now) x
+  pub kept : (p : ℕ) → (scope_of frame).kept p ≡ true
+      → Preserved (directed_shape frame.links.now) (transfer_for frame).kill ((directed_shape frame.links.now).exit p)
 
 -- a frame asks for a column
 pub record IsColumnFrame (frame : Frame) (form : Selection) (column : ℕ) : Type 0 where

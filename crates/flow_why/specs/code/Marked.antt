@@ -1,7 +1,7 @@
 -- What the marks of a search say: each point is marked for a reason, which rests on points that were marked before.
 use Rattle.std.specs.Prelude.{◌≡◌, ◌<◌, ℕ, Bool, true, false, List, length}
 use Rattle.flow_graph.specs.Paths.{Shape, Transfer, root}
-use Rattle.flow_why.specs.code.Closed.{Family}
+use Rattle.flow_why.specs.code.Closed.{Family, Scope}
 use Rattle.flow_why.specs.code.Found.{Found, Grows, Has, IsBefore, MarkList, mark_at, marks_of, point_at}
 use Rattle.flow_why.specs.code.Moves.{Moves}
 use Rattle.flow_why.specs.declared.claim.Claim.{Claim}
@@ -10,7 +10,8 @@ use Rattle.flow_why.specs.declared.mark.Mark.{Mark}
 use Rattle.flow_why.specs.declared.mark.Reason.{Reason}
 use Rattle.flow_why.specs.declared.mark.Reason.TheVariants.{Beginning, Own, Base}
 
--- What a search is for: a shape with its direction and number of points, a transfer, whether the bit is spoken of, and where paths lead.
+-- What a search is for: a shape with its direction and number of points, a transfer, whether the bit is spoken of, where paths lead, and what
+-- is left out.
 pub record Question : Type 0 where
   pub shape : Shape
   pub backward : Bool
@@ -18,6 +19,7 @@ pub record Question : Type 0 where
   pub transfer : Transfer
   pub value : Bool
   pub base : Found
+  pub scope : Scope
 
 -- valid paths lead to a point, where it may hold the bit; paths inside procedures do, where it may be generated
 abbrev pub BaseHas : Found → Claim → ℕ → Type 0

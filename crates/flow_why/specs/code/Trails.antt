@@ -3,7 +3,7 @@ use Rattle.std.specs.Prelude.{◌≡◌, ◌<◌, ◌≤◌, ◌+◌, ◌*◌, �
 use Rattle.flow_graph.specs.Paths.{Transfer, root}
 use Rattle.flow_graph.specs.Points.{point_count}
 use Rattle.flow_links.specs.Shapes.{LinkedProgram, directed_shape}
-use Rattle.flow_why.specs.code.Closed.{idle_transfer}
+use Rattle.flow_why.specs.code.Closed.{idle_transfer, whole_scope}
 use Rattle.flow_why.specs.code.Found.{IsBefore, MarkList, mark_at, nothing_found, point_at}
 use Rattle.flow_why.specs.code.Frames.{IsFrame, is_asked, question_of, transfer_for}
 use Rattle.flow_why.specs.code.Marked.{AreMarks, BaseHas, BeginsAt, Question, is_inner}
@@ -38,6 +38,7 @@ base_question linked = record {
   transfer = idle_transfer;
   value = false;
   base = nothing_found (point_count linked.program);
+  scope = whole_scope;
 }
 
 -- a frame with a bit, over what was found of where paths lead

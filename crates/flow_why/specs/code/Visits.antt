@@ -21,8 +21,9 @@ AreStepsVisited question c x new =
 
 -- by a call of a procedure
 pub record IsCallVisited (question : Question) (c : Claim) (x p : ℕ) (old new : Found) : Type 0 where
-  pub begin : Has new claim.Preserved (question.shape.entry p)
-  pub enter : c ≡ claim.Holds → Has new claim.Holds (question.shape.entry p)
+  pub begin : question.scope.kept p ≡ false → Has new claim.Preserved (question.shape.entry p)
+  pub enter : c ≡ claim.Holds → question.scope.skipped p ≡ false → Has new claim.Holds (question.shape.entry p)
+  pub keep : question.scope.kept p ≡ true → Has new c (call_after question.backward x)
   pub pass : Has old claim.Preserved (question.shape.exit p) → Has new c (call_after question.backward x)
 
 -- by a call from a point of the procedure that is left there
@@ -58,5 +59,5 @@ IsStatementGenVisited frame point new =
 
 -- all that follows was found
 pub record IsComplete (question : Question) (found : Found) : Type 0 where
-  pub closed : IsClosed question.shape question.transfer (BaseHas question.base) (Has found) (Has found)
+  pub closed : IsClosed question.shape question.transfer question.scope (BaseHas question.base) (Has found) (Has found)
   pub begun : IsBegun question.shape question.transfer (BaseHas question.base) (Has found)

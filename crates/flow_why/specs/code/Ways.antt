@@ -8,7 +8,7 @@ use Rattle.tac_program.specs.Programs.{Program}
 use Rattle.gen_kill.specs.Selections.{Selection, column_count, column_transfer}
 use Rattle.flow_why.specs.Directed.{direction_of}
 use Rattle.flow_why.specs.PointBits.{StatementBit, point_transfer}
-use Rattle.flow_why.specs.code.Closed.{IsGround}
+use Rattle.flow_why.specs.code.Closed.{IsGround, IsScope, whole_scope}
 use Rattle.flow_why.specs.code.Found.{Found, nothing_found}
 use Rattle.flow_why.specs.code.Frames.{call_site, question_of}
 use Rattle.flow_why.specs.code.Marked.{AreMarks, BaseHas, Question}
@@ -51,6 +51,7 @@ ways_question ways transfer = record {
   transfer = transfer;
   value = true;
   base = ways.found;
+  scope = whole_scope;
 }
 
 -- the question of a bit
@@ -78,9 +79,10 @@ pub record IsPointAnswered (ways : KnownWays) (program : Program) (bit : Stateme
   pub marks : AreMarks (point_question ways bit) found
   pub complete : IsComplete (point_question ways bit) found
 
--- all is found of what a frame asks
+-- all is found of what a frame asks, as far as its scope goes
 pub record IsAnsweredIn (frame : Frame) (found : Found) : Type 0 where
   pub asked : IsAskedFrame frame
   pub ground : IsGround (directed_shape frame.links.now) (BaseHas frame.base.now)
+  pub scope : IsScope (directed_shape frame.links.now) (question_of frame).scope
   pub marks : AreMarks (question_of frame) found
   pub complete : IsComplete (question_of frame) found

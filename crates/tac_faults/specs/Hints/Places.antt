@@ -1,5 +1,5 @@
 -- What stands at a place of a line.
-use Rattle.std.specs.Prelude.{ℕ, ◌+◌, Bool, false, List, [], Some, None, drop, slice_get, nat_lt}
+use Rattle.std.specs.Prelude.{ℕ, ◌+◌, Bool, false, List, [], Some, None, drop, slice_get, nat_le, nat_lt}
 use Rattle.std.specs.List.{prefix_len}
 use Rattle.tac_lines.specs.Forms.{Slot, fills}
 use Rattle.tac_lines.specs.Tokens.{Token, Word, name, number, fixed}
@@ -11,6 +11,9 @@ bytes start stop = record { start = start; stop = stop }
 -- The bytes from the place on that are all of one kind: where they end.
 abbrev pub run_stop : (ℕ → Bool) → List ℕ → ℕ → ℕ
 run_stop is_kind text place = place + prefix_len is_kind (drop place text)
+
+abbrev pub is_not_ascii : ℕ → Bool
+is_not_ascii b = nat_le 128 b
 
 -- Whether the n-th token may stand in such a place of a form; where it is, or 0 and 0; and how it is spelled, where it is a name.
 abbrev pub stands : Slot → List Token → ℕ → Bool

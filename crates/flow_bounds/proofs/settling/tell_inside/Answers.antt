@@ -18,26 +18,26 @@ tell-requires-clause-group c =
     let shape = directed_shape links in
     let points = point_count links.program in
     let selection = c.args.asking.shared.problem.now in
-    let columns = c.args.columns.now in
+    let columns = c.args.region.columns.now in
     let places = c.as_slice-places.ensures.value in
     record {
       few = c.requires.few;
       low = c.requires.low;
       inside = c.requires.inside;
-      placed = subst (λ (l : List ℕ). ArePlaced shape c.args.inside.now points shape.procedures c.args.points.now l) (sym places) c.requires.placed;
+      placed = subst (λ (l : List ℕ). ArePlaced shape c.args.region.inside.now points shape.procedures c.args.region.points.now l) (sym places) c.requires.placed;
       few_points = c.requires.few_points;
       touched = c.requires.touched;
       gens_count = ap length c.as_slice-2.ensures.value ∙ c.in_ok-gens.ensures.count;
-      gens = subst (λ (l : List ℕ). AreTold selection Generates columns (length columns) c.as_slice-places.result.now (length c.args.points.now) l)
+      gens = subst (λ (l : List ℕ). AreTold selection Generates columns (length columns) c.as_slice-places.result.now (length c.args.region.points.now) l)
           (sym c.as_slice-2.ensures.value) c.in_ok-gens.ensures.told;
       kills_count = ap length c.as_slice-3.ensures.value ∙ c.in_ok-kills.ensures.count;
-      kills = subst (λ (l : List ℕ). AreTold selection Kills columns (length columns) c.as_slice-places.result.now (length c.args.points.now) l)
+      kills = subst (λ (l : List ℕ). AreTold selection Kills columns (length columns) c.as_slice-places.result.now (length c.args.region.points.now) l)
           (sym c.as_slice-3.ensures.value) c.in_ok-kills.ensures.told;
       boundary = c.boundary_of.ensures;
       leads_count = ap length c.as_slice-4.ensures.value ∙ c.in_ok-leads.ensures.count;
-      leads = subst (λ (l : List Bool). AreLeading shape c.args.inside.now l) (sym c.as_slice-4.ensures.value) c.in_ok-leads.ensures.leads;
+      leads = subst (λ (l : List Bool). AreLeading shape c.args.region.inside.now l) (sym c.as_slice-4.ensures.value) c.in_ok-leads.ensures.leads;
       called_count = ap length c.as_slice-5.ensures.value ∙ c.in_ok-called.ensures.count;
       called = λ site x p call outside in_it.
-          (subst (λ (l : List Bool). AreCalled shape c.args.inside.now l shape.procedures) (sym c.as_slice-5.ensures.value)
+          (subst (λ (l : List Bool). AreCalled shape c.args.region.inside.now l shape.procedures) (sym c.as_slice-5.ensures.value)
           c.in_ok-called.ensures.called) site x p call.0 call outside in_it;
     }

@@ -43,3 +43,12 @@ loop-at-preserved c =
           (slice_index_or asked at no_why) old.whys.items new.whys.items old.hops.items new.hops.items (longer asked at c.loop-at-test.true) more
           (kept.2 number before),
     )
+
+pub returns-then-not-is_asked_again-clause-told : goal.returns-then-not-is_asked_again-clause-told
+returns-then-not-is_asked_again-clause-told c number before =
+    let asked = c.args.asked.now in
+    let from = c.args.from in
+    let old = c.args.told.now in
+    let new = c.tell_alone.new.told in
+    one_more c.args.problem.now number asked from (slice_index_or asked from no_why) old.whys.items new.whys.items old.hops.items new.hops.items
+    (longer asked from c.requires.from) c.in_ok-tell_alone.ensures before

@@ -9,7 +9,7 @@ abbrev pub invariant-visits : goal.invariant-visits
 invariant-visits l = record {
   marks : AreMarks (question_of l.frame) l.search;
   orderly : AreOrderly l.search;
-  closed : IsClosed (question_of l.frame).shape (transfer_for l.frame) (BaseHas l.frame.base.now) (HasTaken l.search) (Has l.search);
+  closed : IsClosed (question_of l.frame).shape (transfer_for l.frame) (question_of l.frame).scope (BaseHas l.frame.base.now) (HasTaken l.search) (Has l.search);
   begun : IsBegun (question_of l.frame).shape (transfer_for l.frame) (BaseHas l.frame.base.now) (Has l.search);
 }
 

@@ -1,5 +1,5 @@
 use Rattle.std.proofs.Common.{◌≡◌}
-use Rattle.tac_faults.specs.Hints.Bytes.{is_not_ascii}
+use Rattle.tac_faults.specs.Hints.Places.{is_not_ascii}
 use Rattle.tac_faults.specs.Hints.Places.{run_stop}
 use Rattle.tac_faults.proofs.places.not_ascii_stop.Given as goal
 

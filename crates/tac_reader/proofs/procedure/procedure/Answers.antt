@@ -4,4 +4,4 @@ use Rattle.tac_reader.proofs.procedure.procedure.Goals as goal
 
 pub new-requires : goal.new-requires
 new-requires c =
-    labels_rise c.in_ok-places.places.items (lines_view c.args.cursor.now c.args.section.lines) (c.in_ok-places.ensures c.args.cursor.now)
+    labels_rise c.in_ok-places.places.items (lines_view c.args.cursor.now c.args.own.section.lines) (c.in_ok-places.ensures c.args.cursor.now)

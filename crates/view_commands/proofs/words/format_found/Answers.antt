@@ -1,18 +1,18 @@
 use Rattle.std.proofs.Common.{◌∙◌, sym, ap}
 use Rattle.std.specs.Prelude.{option_and_then}
 use Rattle.clap.specs.Words.{found_of, rows_of}
-use Rattle.view_commands.specs.Commands.{has_because}
-use Rattle.view_commands.specs.Kinds.{with_because}
+use Rattle.view_commands.specs.Commands.{has_part}
+use Rattle.view_commands.specs.Kinds.{with_part}
 use Rattle.view_commands.proofs.words.format_found.Goals as goal
 
 pub returns-in-Some : goal.returns-in-Some
 returns-in-Some c =
     let rows = rows_of (found_of c.args.matches.now) in
-    c.with_because.ensures
-    ∙ ap (λ is. with_because is c.in-Some.format) c.has_because.ensures
-    ∙ ap (option_and_then (with_because (has_because rows))) (sym (sym c.format_with_paths.ensures ∙ c.in-Some.is))
+    c.with_part.ensures
+    ∙ ap (λ is. with_part is c.in-Some.format) c.has_part.ensures
+    ∙ ap (option_and_then (with_part (has_part rows))) (sym (sym c.shown_format.ensures ∙ c.in-Some.is))
 
 pub returns-in-None : goal.returns-in-None
 returns-in-None c =
     let rows = rows_of (found_of c.args.matches.now) in
-    ap (option_and_then (with_because (has_because rows))) (sym (sym c.format_with_paths.ensures ∙ c.in-None.is))
+    ap (option_and_then (with_part (has_part rows))) (sym (sym c.shown_format.ensures ∙ c.in-None.is))

@@ -6,6 +6,7 @@ use Rattle.flow_paths.specs.Sets.{Sets}
 use Rattle.flow_paths.specs.code.Arounds.{AreSetsOf, around_at, sets_of}
 use Rattle.flow_paths.specs.code.UnsetPaths.{hops_at}
 use Rattle.flow_reports.specs.Reports.{IsKnowledge, Knowledge}
+use Rattle.flow_views.specs.Json.{end_line}
 use Rattle.flow_views.specs.code.ViewProgram.{AreShown, known_of}
 use Rattle.flow_views.specs.declared.view_program.ViewProgram.{ViewProgram}
 use Rattle.flow_views.specs.declared.view.View.{View}
@@ -41,7 +42,7 @@ returns c =
       doubts = list;
       are_doubts = subst (λ (v : View). AreDoubts program (all_of shown are) v list) (sym c.in_ok-shown.ensures.view)
           (doubted (all_of shown are) (all_of_is shown are));
-      is_text = ap (λ lines. lines ++ flat_map (doubt_line program) list)
+      is_text = ap (λ lines. lines ++ flat_map (doubt_line program) list ++ end_line program shown.view)
           (same_json_with program are.found.sound (known_of shown) (all_of shown are) (known_agrees shown are) shown.view.facts
-          shown.view.procedure are.procedure (known_all shown are) object);
+          shown.view.procedure shown.view.look are.procedure (known_all shown are) object);
     })

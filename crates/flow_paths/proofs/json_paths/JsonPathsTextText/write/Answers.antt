@@ -1,4 +1,4 @@
-use Rattle.std.proofs.Common.{◌∙◌, ℕ, List}
+use Rattle.std.proofs.Common.{ℕ, List}
 use Rattle.text_pieces.proofs.sinks.Taking.{takes_as, takes_then}
 use Rattle.flow_views.specs.Json.{json_with}
 use Rattle.flow_views.specs.code.ViewProgram.{known_of}
@@ -14,6 +14,8 @@ returns g c =
     let json : List ℕ =
     json_with (remark_with_path (hops_at c.self.inside.paths) (sets_of (around_at c.self.inside.around.arounds))) shown.found.graph.now
     (known_of shown) shown.view in
-    takes_as _ _ _ _ (takes_then _ _ _ _ _ c.write_json.ensures c.write_doubts.ensures)
-    (same_lines json c.self.inside.graph.now shown.found.graph.now c.deref.result.now c.self.inside.around.doubts.items
-    c.self.invariant.2 c.deref.ensures.value ∙ c.self.view_is)
+    let doubts =
+    same_lines json c.self.inside.graph.now shown.found.graph.now c.deref.result.now c.self.inside.around.doubts.items
+    c.self.invariant.2 c.deref.ensures.value in
+    takes_as _ _ _ _ (takes_then _ _ _ _ _ (takes_as _ _ _ _ (takes_then _ _ _ _ _ c.write_json.ensures c.write_doubts.ensures) doubts)
+    c.write_end.ensures) c.self.view_is

@@ -84,8 +84,8 @@ returns c =
     let shows : is_shown points ≡ is_point_shown program shown.view =
     ap₂ (λ (a b : ℕ). λ (p : ℕ). nat_le a p && nat_lt p b) first end in
     let picture : open_dot program (known_of shown) shown.view ≡ open_dot program (all_of shown are) shown.view =
-    same_open program are.found.sound (known_of shown) (all_of shown are) (known_agrees shown are) shown.view.facts shown.view.procedure are.procedure
-    (known_all shown are) in
+    same_open program are.found.sound (known_of shown) (all_of shown are) (known_agrees shown are) shown.view.facts shown.view.procedure
+    shown.view.look are.procedure (known_all shown are) in
     let out : List ℕ = marked_dot (is_shown points) (open_dot program (known_of shown) shown.view) hops one.point in
     subst (λ (p : Program). IsDotWithPath p c.args.view text out) is
     (subst (λ (v : View). IsDotWithPath program v text out) seen

@@ -10,10 +10,10 @@ use Rattle.flow_reports.proofs.findings.Findings.write_busy_word.Given as goal
 abbrev pub invariant-loop-place : goal.invariant-loop-place
 invariant-loop-place g l = record {
   within : l.place ≤ 64;
-  one : l.place < 64 → has_bit l.ones l.place ≡ true;
+  one : l.place < 64 → has_bit l.fn.word.ones l.place ≡ true;
   writes : Writes g.K.Sink l.fn.out l.out
       (texts_where (λ e. g.F.RemarkForm.text l.form l.self.graph.now l.point (VeryBusy e)) ((knowledge_of l.self).busy.contains l.point)
-      (range_with_len l.first (min l.width l.place)));
+      (range_with_len l.fn.word.first (min l.width l.place)));
 }
 
 abbrev pub decreases-loop-place : goal.decreases-loop-place

@@ -1,21 +1,13 @@
-use Rattle.std.proofs.Common.{List, flat_map, get_or, All, sym, subst, ap}
-use Rattle.std.proofs.lemmas.List.Elements.{All-contains_itself}
-use Rattle.flow_graph.specs.Edges.{edges_from}
-use Rattle.flow_graph.specs.declared.edge.Edge.{Edge}
+use Rattle.std.proofs.Common.{flat_map, ap}
 use Rattle.text_pieces.proofs.sinks.Taking.{takes_as, takes_then}
 use Rattle.tac_program.specs.Programs.{Program}
 use Rattle.flow_views.specs.Dots.{shown_edge}
-use Rattle.flow_views.specs.code.ViewProgram.{IsSiteIn}
-use Rattle.flow_views.proofs.facts.Tables.{sites_in}
+use Rattle.flow_views.proofs.facts.Tables.{all_ends_in}
 use Rattle.flow_views.proofs.dots.DotEdgesPointForm.write_point.Goals as goal
 
 pub write_shown_edges-requires-clause-edges : goal.write_shown_edges-requires-clause-edges
 write_shown_edges-requires-clause-edges g c =
-    let program : Program = c.args.shown.now.found.graph.now in
-    let edges : List Edge = edges_from program c.args.point in
-    subst (λ es. All (IsSiteIn program) es) (sym c.edges.ensures)
-    (λ k d within.
-    sites_in program c.args.point c.requires.shown.found.sound c.requires.point (get_or edges k d) (All-contains_itself edges k d within))
+    all_ends_in c.args.shown.now.found.graph.now c.args.point c.edges.result.now c.requires.shown.found.sound c.requires.point c.edges.ensures
 
 pub returns : goal.returns
 returns g c =

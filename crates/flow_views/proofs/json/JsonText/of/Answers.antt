@@ -20,5 +20,5 @@ returns c =
       known = all_of shown are;
       is_known = all_of_is shown are;
       is_text = same_json program are.found.sound (known_of shown) (all_of shown are) (known_agrees shown are) shown.view.facts
-          shown.view.procedure are.procedure (known_all shown are);
+          shown.view.procedure shown.view.look are.procedure (known_all shown are);
     })

@@ -11,7 +11,7 @@ pub returns : goal.returns
 returns g c =
     let program : Program = c.args.self.now.found.graph.now in
     let first : List ℕ = codes "  subgraph \"cluster_" ++ decimal c.args.procedure ++ codes "\" {\n" ++ codes "    label=" in
-    let nodes : List ℕ = flat_map (node program (known_of c.args.self.now) c.args.self.now.view.facts) (points_in program c.args.procedure) in
+    let nodes : List ℕ = flat_map (node program (known_of c.args.self.now) c.args.self.now.view) (points_in program c.args.procedure) in
     takes_as _ _ _ _
     (takes_then _ _ _ _ _ (takes_then
     _ _ _ _ _ (takes_then _ _ _ _ _ (takes_then _ _ _ _ _ (takes_then _ _ _ _ _ (takes_then _ _ _ _ _ (takes_then _ _ _ _ _ c.write.ensures

@@ -12,12 +12,12 @@ write_cluster-requires-clause-shows g c =
 
 pub loop-procedure-preserved : goal.loop-procedure-preserved
 loop-procedure-preserved g c = takes_as _ _ _ _ (takes_then _ _ _ _ _ c.loop-procedure.invariant c.write_cluster.ensures)
-    (walk_more (cluster c.args.self.now.found.graph.now (known_of c.args.self.now) c.args.self.now.view.facts)
+    (walk_more (cluster c.args.self.now.found.graph.now (known_of c.args.self.now) c.args.self.now.view)
     c.args.procedures.first c.loop-procedure.procedure c.loop-procedure.auto.procedure)
 
 pub returns : goal.returns
 returns g c =
     let all : c.loop-procedure.procedure ≡ c.args.procedures.end = omega (arith, c.requires.ordered) in
     takes_as _ _ _ _ c.loop-procedure.invariant
-    (ap (λ n. flat_map (cluster c.args.self.now.found.graph.now (known_of c.args.self.now) c.args.self.now.view.facts)
+    (ap (λ n. flat_map (cluster c.args.self.now.found.graph.now (known_of c.args.self.now) c.args.self.now.view)
     (range_with_len c.args.procedures.first (n - c.args.procedures.first))) all)

@@ -8,5 +8,5 @@ use Rattle.flow_views.proofs.view_program.ViewProgram.write_clusters.Given as go
 abbrev pub invariant-loop-procedure : goal.invariant-loop-procedure
 invariant-loop-procedure g l =
     Writes g.K.Sink l.fn.out l.out
-    (flat_map (cluster l.fn.self.found.graph.now (known_of l.fn.self) l.fn.self.view.facts)
+    (flat_map (cluster l.fn.self.found.graph.now (known_of l.fn.self) l.fn.self.view)
     (range_with_len l.fn.procedures.first (l.procedure - l.fn.procedures.first)))

@@ -6,7 +6,7 @@ use Rattle.text_pieces.proofs.sinks.Taking.{takes_as, takes_then}
 use Rattle.tac_program.specs.Programs.{Program}
 use Rattle.flow_views.specs.code.ViewProgram.{known_of}
 use Rattle.flow_reports.specs.Reports.{Knowledge}
-use Rattle.flow_views.specs.Dots.{fact_line, label_line}
+use Rattle.flow_views.specs.Dots.{fact_lines, label_line}
 use Rattle.flow_views.specs.Views.{analysis_if, is_chosen}
 use Rattle.flow_views.proofs.texts.Walks.{flat_map-passing, walk_next}
 use Rattle.flow_views.proofs.view_program.ViewProgram.write_facts.Goals as goal
@@ -19,7 +19,7 @@ pub returns : goal.returns
 returns g c =
     let program : Program = c.args.self.now.found.graph.now in
     let known : Knowledge = known_of c.args.self.now in
-    let lines : Analysis → List ℕ = (λ a. label_line (fact_line program known c.args.point a)) in
+    let lines : Analysis → List ℕ = (λ a. flat_map label_line (fact_lines program known c.args.self.now.view c.args.point a)) in
     let shown : Analysis → Bool = is_chosen c.args.self.now.view.facts in
     let all_of_them : c.loop-analysis.analysis-index ≡ 4 = omega (arith, c.loop-analysis.auto.analysis-index-end, c.loop-analysis-test.false) in
     takes_as _ _ _ _ c.loop-analysis.invariant

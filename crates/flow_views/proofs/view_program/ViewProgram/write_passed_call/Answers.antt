@@ -6,4 +6,4 @@ use Rattle.flow_views.proofs.view_program.ViewProgram.write_passed_call.Goals as
 pub returns : goal.returns
 returns g c =
     takes_as _ _ _ _ (takes_then _ _ _ _ _ c.write_arrow.ensures c.write.ensures)
-    (passed_is c.args.self.now.found.graph.now c.args.self.now.view c.args.point _ c.in-Some.is (sym c.calls_at.ensures ∙ c.if-not-calls_at.false))
+    (passed_is c.args.self.now.found.graph.now c.args.point (sym c.calls_at.ensures ∙ c.if-not-calls_at.false))

@@ -7,18 +7,18 @@ use Rattle.flow_views.proofs.view_program.ViewProgram.write_program.Goals as goa
 
 -- the numbers that were found are those of the program
 program_text : (procedures variables : List ℕ) {x y z k m n : ℕ} → x ≡ k → y ≡ m → z ≡ n
-    → codes "{\"type\":\"program\",\"points\":" ++ decimal x ++ codes ",\"procedures\":" ++ procedures ++ codes ",\"variables\":" ++ variables
+    → codes "{\"type\":\"program\",\"version\":1,\"points\":" ++ decimal x ++ codes ",\"procedures\":" ++ procedures ++ codes ",\"variables\":" ++ variables
     ++ codes ",\"definitions\":" ++ decimal y ++ codes ",\"expressions\":" ++ decimal z ++ codes "}\n"
-    ≡ codes "{\"type\":\"program\",\"points\":" ++ decimal k ++ codes ",\"procedures\":" ++ procedures ++ codes ",\"variables\":" ++ variables
+    ≡ codes "{\"type\":\"program\",\"version\":1,\"points\":" ++ decimal k ++ codes ",\"procedures\":" ++ procedures ++ codes ",\"variables\":" ++ variables
     ++ codes ",\"definitions\":" ++ decimal m ++ codes ",\"expressions\":" ++ decimal n ++ codes "}\n"
 program_text procedures variables {x} {y} {z} {k} {m} {n} e f g =
-    ap (λ i. codes "{\"type\":\"program\",\"points\":" ++ decimal i ++ codes ",\"procedures\":" ++ procedures ++ codes ",\"variables\":" ++ variables
+    ap (λ i. codes "{\"type\":\"program\",\"version\":1,\"points\":" ++ decimal i ++ codes ",\"procedures\":" ++ procedures ++ codes ",\"variables\":" ++ variables
     ++ codes ",\"definitions\":" ++ decimal y ++ codes ",\"expressions\":" ++ decimal z ++ codes "}\n") e
     ∙ ap
-    (λ i. codes "{\"type\":\"program\",\"points\":" ++ decimal k ++ codes ",\"procedures\":" ++ procedures ++ codes ",\"variables\":" ++ variables
+    (λ i. codes "{\"type\":\"program\",\"version\":1,\"points\":" ++ decimal k ++ codes ",\"procedures\":" ++ procedures ++ codes ",\"variables\":" ++ variables
     ++ codes ",\"definitions\":" ++ decimal i ++ codes ",\"expressions\":" ++ decimal z ++ codes "}\n") f
     ∙ ap
-    (λ i. codes "{\"type\":\"program\",\"points\":" ++ decimal k ++ codes ",\"procedures\":" ++ procedures ++ codes ",\"variables\":" ++ variables
+    (λ i. codes "{\"type\":\"program\",\"version\":1,\"points\":" ++ decimal k ++ codes ",\"procedures\":" ++ procedures ++ codes ",\"variables\":" ++ variables
     ++ codes ",\"definitions\":" ++ decimal m ++ codes ",\"expressions\":" ++ decimal i ++ codes "}\n") g
 
 pub returns : goal.returns

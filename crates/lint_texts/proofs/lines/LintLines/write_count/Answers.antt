@@ -8,4 +8,4 @@ returns g c =
     takes_as _ _ _ _
     (takes_then _ _ _ _ _ (takes_then _ _ _ _ _ (takes_then _ _ _ _ _ c.write.ensures c.write-2.ensures) c.write_remark_count.ensures)
     c.write-3.ensures)
-    (ap (λ n. c.args.self.now.file.now ++ codes ": " ++ remark_count n ++ codes "\n") c.wanted_count.ensures)
+    (ap (λ n. c.args.self.now.file.name.now ++ codes ": " ++ remark_count n ++ codes "\n") c.told_count.ensures)

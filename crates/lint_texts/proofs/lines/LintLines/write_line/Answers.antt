@@ -1,5 +1,7 @@
 use Rattle.std.proofs.Common.{◌++◌, codes, ap}
-use Rattle.lint_texts.specs.LintTexts.{lint_words, place_words}
+use Rattle.lint_styles.specs.Styles.{painted}
+use Rattle.lint_styles.specs.declared.style.Hue.TheVariants as hue
+use Rattle.lint_texts.specs.LintTexts.{file_text, lint_words, place_words}
 use Rattle.lint_texts.specs.code.Lines.{reached_in}
 use Rattle.text_pieces.proofs.sinks.Taking.{takes_as, takes_then}
 use Rattle.lint_texts.proofs.lines.LintLines.write_line.Goals as goal
@@ -8,10 +10,12 @@ pub returns : goal.returns
 returns g c =
     let program = c.args.self.now.graph.now in
     let placed = c.args.placed in
-    let place = place_words c.args.self.now.file.now program placed.point in
+    let place = place_words (file_text c.args.self.now.file) program placed.point in
     let words = lint_words program (reached_in c.args.self.now) placed.point placed.lint in
     takes_as _ _ _ _
     (takes_then _ _ _ _ _
-    (takes_then _ _ _ _ _ (takes_then _ _ _ _ _ (takes_then _ _ _ _ _ c.write_place.ensures c.write.ensures) c.write-2.ensures) c.write_words.ensures)
-    c.write-3.ensures)
-    (ap (λ k. place ++ k ++ codes ": " ++ words ++ codes "\n") c.kind_name.ensures)
+    (takes_then _ _ _ _ _
+    (takes_then _ _ _ _ _ (takes_then _ _ _ _ _ c.write_place.ensures c.write_painted.ensures) c.write.ensures)
+    c.write_words.ensures)
+    c.write-2.ensures)
+    (ap (λ k. place ++ painted c.args.self.now.telling.style hue.Remark k ++ codes ": " ++ words ++ codes "\n") c.kind_name.ensures)

@@ -3,7 +3,7 @@ use Rattle.std.specs.List.{All, flat_map}
 use Rattle.std.proofs.lemmas.List.{get_or_default}
 use Rattle.flow_graph.specs.Points.{point_count}
 use Rattle.flow_lints.specs.declared.lint.PlacedLint.{PlacedLint}
-use Rattle.lint_texts.specs.LintTexts.{wanted_line}
+use Rattle.lint_texts.specs.LintTexts.{file_text, told_lines}
 use Rattle.lint_texts.specs.code.Lines.{reached_in}
 use Rattle.lint_texts.proofs.Texts.{all_taken, text_more}
 use Rattle.text_pieces.proofs.sinks.Taking.{takes_as, takes_nothing, takes_then}
@@ -12,8 +12,8 @@ use Rattle.lint_texts.proofs.lines.LintLines.write_lints.Goals as goal
 pub loop-placed-init : goal.loop-placed-init
 loop-placed-init g c = takes_nothing _
 
-pub write_wanted-requires-clause-point : goal.write_wanted-requires-clause-point
-write_wanted-requires-clause-point g c =
+pub write_told-requires-clause-point : goal.write_told-requires-clause-point
+write_told-requires-clause-point g c =
     let lints : List PlacedLint = c.as_slice-lints.result.now in
     let there : All (λ (placed : PlacedLint). placed.point < point_count c.args.self.now.graph.now) lints =
     subst (All (λ (placed : PlacedLint). placed.point < point_count c.args.self.now.graph.now)) (sym c.as_slice-lints.ensures.value)
@@ -24,8 +24,8 @@ pub loop-placed-preserved : goal.loop-placed-preserved
 loop-placed-preserved g c =
     let self = c.args.self.now in
     let lints : List PlacedLint = c.as_slice-lints.result.now in
-    takes_as _ _ _ _ (takes_then _ _ _ _ _ c.loop-placed.invariant c.write_wanted.ensures)
-    (text_more lints c.loop-placed.placed-index (wanted_line self.file.now self.kinds self.graph.now (reached_in self)) _ c.loop-placed-test.true
+    takes_as _ _ _ _ (takes_then _ _ _ _ _ c.loop-placed.invariant c.write_told.ensures)
+    (text_more lints c.loop-placed.placed-index (told_lines (file_text self.file) self.telling self.graph.now (reached_in self)) _ c.loop-placed-test.true
     (get_or_default lints c.loop-placed.placed-index _ _ c.loop-placed-test.true))
 
 pub returns : goal.returns
@@ -33,5 +33,5 @@ returns g c =
     let self = c.args.self.now in
     let lints : List PlacedLint = c.as_slice-lints.result.now in
     takes_as _ _ _ _ c.loop-placed.invariant
-    (all_taken lints c.loop-placed.placed-index (flat_map (wanted_line self.file.now self.kinds self.graph.now (reached_in self)))
+    (all_taken lints c.loop-placed.placed-index (flat_map (told_lines (file_text self.file) self.telling self.graph.now (reached_in self)))
     self.linted.now.lints.items (omega (arith, c.loop-placed-test.false)) c.as_slice-lints.ensures.value)

@@ -1,5 +1,5 @@
 use Rattle.std.proofs.Common.{flat_map, take}
-use Rattle.lint_texts.specs.LintTexts.{wanted_line}
+use Rattle.lint_texts.specs.LintTexts.{file_text, told_lines}
 use Rattle.lint_texts.specs.code.Lines.{reached_in}
 use Rattle.text_pieces.specs.Pieces.{Writes}
 use Rattle.lint_texts.proofs.lines.LintLines.write_lints.Given as goal
@@ -7,4 +7,4 @@ use Rattle.lint_texts.proofs.lines.LintLines.write_lints.Given as goal
 abbrev pub invariant-loop-placed : goal.invariant-loop-placed
 invariant-loop-placed g l =
     Writes g.K.Sink l.fn.out l.out
-    (flat_map (wanted_line l.self.file.now l.self.kinds l.self.graph.now (reached_in l.self)) (take l.placed-index l.lints))
+    (flat_map (told_lines (file_text l.self.file) l.self.telling l.self.graph.now (reached_in l.self)) (take l.placed-index l.lints))

@@ -1,9 +1,16 @@
-use Rattle.std.proofs.Common.{◌++◌, codes, decimal, ap}
+use Rattle.std.proofs.Common.{◌++◌, codes, decimal, ap₂}
 use Rattle.text_pieces.proofs.sinks.Taking.{takes_as, takes_then}
 use Rattle.lint_texts.proofs.lines.LintLines.write_place.Goals as goal
 
 pub returns : goal.returns
 returns g c =
     takes_as _ _ _ _
-    (takes_then _ _ _ _ _ (takes_then _ _ _ _ _ (takes_then _ _ _ _ _ c.write.ensures c.write-2.ensures) c.write_number.ensures) c.write-3.ensures)
-    (ap (λ n. c.args.self.now.file.now ++ codes ":" ++ decimal n ++ codes ": ") c.line.ensures)
+    (takes_then _ _ _ _ _
+    (takes_then _ _ _ _ _
+    (takes_then _ _ _ _ _
+    (takes_then _ _ _ _ _ (takes_then _ _ _ _ _ c.write.ensures c.write-2.ensures) c.write_number.ensures)
+    c.write-3.ensures)
+    c.write_size.ensures)
+    c.write-4.ensures)
+    (ap₂ (λ line column. c.args.self.now.file.name.now ++ codes ":" ++ decimal line ++ codes ":" ++ decimal column ++ codes ": ")
+    c.line.ensures c.column.ensures)

@@ -1,8 +1,7 @@
 use Rattle.std.proofs.Common.{subst}
 use Rattle.flow_runs.proofs.deliveries.Deliveries.{delivers_as}
-use Rattle.flow_views.specs.declared.view.Chosen.{Chosen}
 use Rattle.flow_views.specs.declared.view.View.{View}
-use Rattle.view_commands.specs.Commands.{because_queried}
+use Rattle.view_commands.specs.Commands.{request_of}
 use Rattle.view_commands.specs.Views.{IsText}
 use Rattle.view_commands.proofs.views.GatedOptionsOutput.write.Goals as goal
 
@@ -14,8 +13,9 @@ returns-clause-delivers g c =
       record {
         procedure = c.in_ok-view.view.procedure;
         queried = c.in_ok-view.ensures.procedure;
-        text = subst (λ (chosen : Chosen). let view : View = record { facts = chosen; procedure = c.in_ok-view.view.procedure } in
-            IsText c.args.self.now.options.now.format (because_queried c.args.self.now.options.now) c.args.program.now view out) c.in_ok-view.ensures.facts is.2;
+        text = subst (λ (view : View).
+            IsText c.args.self.now.options.now.format (request_of c.args.self.now.options.now) c.args.mark.now c.args.program.now view out)
+            c.in_ok-view.ensures.view is.2;
       },
     ))
     c.write_view.ensures.delivers

@@ -1,0 +1,96 @@
+use Rattle.std.proofs.Common.{◌≡◌, ℕ, ◌<◌, ◌≤◌, Bool, true, ◌&&◌, List, Contains, Option, filter, get_or, length, map, ap, sym, subst, ◌∙◌, All, arith}
+use Rattle.std.specs.List.{range_with_len}
+use Rattle.std.proofs.lemmas.List.Elements.{All-contains_itself}
+use Rattle.flow_graph.specs.Edges.{edges_from}
+use Rattle.flow_graph.specs.Paths.{target_of}
+use Rattle.flow_graph.specs.Points.{point_count}
+use Rattle.flow_graph.specs.Universes.{bits}
+use Rattle.flow_graph.specs.declared.analysis.Analysis.{Analysis}
+use Rattle.flow_graph.specs.declared.edge.Edge.{Edge}
+use Rattle.flow_texts.specs.Tables.{bit_text, listed}
+use Rattle.flow_texts.proofs.sets.ListTexts.{map-members}
+use Rattle.text_pieces.specs.code.Blocks.{SeparatedTexts}
+use Rattle.text_pieces.specs.code.Lists.{text_at}
+use Rattle.text_pieces.specs.Strings.{escaped}
+use Rattle.text_pieces.proofs.sinks.Taking.{takes_as}
+use Rattle.tac_program.specs.Programs.{Program}
+use Rattle.flow_team.specs.Tables.{Facts, TableFacts, facts_of}
+use Rattle.point_sets.specs.Sets.{has_behind, is_bit_shown, set_on, shown_bits}
+use Rattle.point_sets.specs.declared.side.Side.{Side}
+use Rattle.point_sets.specs.declared.side.Side.TheVariants.{Behind}
+use Rattle.flow_views.specs.code.Names.{AreNamesOf}
+use Rattle.flow_views.specs.code.ViewProgram.{AreShown, IsShownPoint, IsShownTable, known_of}
+use Rattle.flow_views.specs.declared.names.NameForm.{NameForm}
+use Rattle.flow_views.specs.declared.names.NameForm.TheVariants.{Escaped}
+use Rattle.flow_views.specs.declared.view_program.ViewProgram.{ViewProgram}
+use Rattle.flow_views.specs.Views.{end_shown, known_facts}
+use Rattle.flow_views.proofs.facts.Behind.{next_shown, same_set_on}
+use Rattle.flow_views.proofs.texts.Rows.{escaped_listed}
+use Rattle.flow_views.proofs.view_program.ViewProgram.write_set_on.Goals as goal
+
+-- the names of the table's analysis
+named : (form : NameForm) (program : Program) (asked analysis : Analysis) (names : SeparatedTexts) → form ≡ Escaped → asked ≡ analysis
+    → AreNamesOf form program asked names → AreNamesOf Escaped program analysis names
+named form program asked analysis names is same are =
+    subst (λ (a : Analysis). AreNamesOf Escaped program a names) same (subst (λ (f : NameForm). AreNamesOf f program asked names) is are)
+
+module _ (shown : ViewProgram) (are : AreShown shown) (table : TableFacts) (is_table : IsShownTable shown table) (point : ℕ) (here : IsShownPoint shown point)
+    (below : point < point_count shown.found.graph.now) (side : Side)
+    (stands : side ≡ Behind → has_behind shown.found.graph.now point ≡ true) where
+  -- the table has the points to which control may go
+  next_there : (edges : List Edge) → edges ≡ edges_from shown.found.graph.now point → side ≡ Behind
+      → All (λ edge. target_of edge < length table.paths) edges
+  next_there edges read is =
+      subst (λ (es : List Edge). All (λ edge. target_of edge < length table.paths) es) (sym read)
+      (λ k d within.
+      let next = next_shown shown.found.graph.now are.found.sound shown.view.procedure are.procedure point below here (stands is)
+      (get_or (edges_from shown.found.graph.now point) k d) (All-contains_itself (edges_from shown.found.graph.now point) k d within) in
+      omega (arith, is_table.points, next.1))
+
+  same_set : set_on side shown.found.graph.now table.analysis (facts_of table) point
+      ≡ set_on side shown.found.graph.now table.analysis (known_facts (known_of shown) table.analysis) point
+  same_set =
+      same_set_on shown.found.graph.now (facts_of table) (known_facts (known_of shown) table.analysis) point (is_table.tells point here) table.analysis side
+      (λ is edge among. is_table.tells (target_of edge)
+      (next_shown shown.found.graph.now are.found.sound shown.view.procedure are.procedure point below here (stands is) edge among))
+
+pub write_point_set-requires-clause-commas : goal.write_point_set-requires-clause-commas
+write_point_set-requires-clause-commas g c =
+    (named _ c.args.self.now.found.graph.now _ c.args.table.now.analysis c.names.result.now c.requires.form c.analysis.ensures c.names.ensures).separated
+
+pub write_point_set-requires-clause-set : goal.write_point_set-requires-clause-set
+write_point_set-requires-clause-set g c = record {
+  point = c.requires.point;
+  there = omega (arith, c.requires.table.points, c.requires.shows.1);
+  bits = c.requires.table.bits;
+  edges = c.edges.ensures;
+  next = next_there c.args.self.now c.requires.shown c.args.table.now c.requires.table c.args.point c.requires.shows c.requires.point c.args.side
+      c.requires.side c.edges.result.now c.edges.ensures;
+}
+
+pub write_point_set-requires-clause-texts : goal.write_point_set-requires-clause-texts
+write_point_set-requires-clause-texts g c =
+    let held = named _ c.args.self.now.found.graph.now _ c.args.table.now.analysis c.names.result.now c.requires.form c.analysis.ensures c.names.ensures in
+    omega (arith, held.texts.same_count, c.requires.table.bits)
+
+pub returns : goal.returns
+returns g c =
+    let program : Program = c.args.self.now.found.graph.now in
+    let table : TableFacts = c.args.table.now in
+    let analysis : Analysis = table.analysis in
+    let side : Side = c.args.side in
+    let point : ℕ = c.args.point in
+    let hides : Bool = c.args.self.now.view.look.hides_entry in
+    let facts : Facts = known_facts (known_of c.args.self.now) analysis in
+    let names : SeparatedTexts = c.names.result.now in
+    let held : AreNamesOf Escaped program analysis names =
+    named _ program _ analysis names c.requires.form c.analysis.ensures c.names.ensures in
+    let told : ℕ → Bool = λ bit. set_on side program analysis (facts_of table) point bit && is_bit_shown program analysis hides bit in
+    takes_as _ _ _ _ c.write_point_set.ensures
+    (ap listed
+    (ap (λ n. map (text_at names.texts) (filter told (range_with_len 0 n))) c.requires.table.bits
+    ∙ map-members (text_at names.texts) (λ bit. escaped (bit_text program analysis bit)) told 0 (bits program analysis)
+    (λ n below. held.texts.each n (omega (arith, below)))
+    ∙ ap (λ (set : ℕ → Bool). map (λ bit. escaped (bit_text program analysis bit)) (shown_bits program analysis hides set))
+    (same_set c.args.self.now c.requires.shown table c.requires.table point c.requires.shows c.requires.point side c.requires.side))
+    ∙ escaped_listed (bit_text program analysis) (shown_bits program analysis hides (set_on side program analysis facts point)))

@@ -1,0 +1,9 @@
+use Rattle.std.proofs.Common.{◌≡◌, length}
+use Rattle.flow_why.specs.code.Scopes.{Stays}
+use Rattle.flow_why.proofs.scope.mark_callers.Given as goal
+
+abbrev pub invariant-loop-caller : goal.invariant-loop-caller
+invariant-loop-caller l = record {
+  count : length l.marks ≡ length l.fn.marks;
+  stays : Stays l.fn.marks l.marks;
+}

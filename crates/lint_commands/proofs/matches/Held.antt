@@ -1,0 +1,60 @@
+-- The matches of `taclint`'s command hold the options that have a default.
+use Rattle.std.proofs.Common.{◌≡◌, refl, sym, subst, List, codes, ◌⊎◌, inl, inr, true}
+use Rattle.std.specs.Borrow.{Bor}
+use Rattle.clap.specs.Facts.{HasDefaults, ValuesPass}
+use Rattle.clap.specs.Simple.{App, app_of, built}
+use Rattle.clap.specs.Words.{rows_of}
+use Rattle.clap.specs.declared.builder.command.Command.{Command}
+use Rattle.clap.specs.declared.builder.possible_value.PossibleValue.{PossibleValue}
+use Rattle.clap.specs.declared.parser.matches.Found.{Found}
+use Rattle.flow_runs.specs.Words.{AreKindsOf}
+use Rattle.flow_runs.proofs.matches.HeldValues as lemmas
+use Rattle.flow_runs.proofs.matches.Cases.{other}
+use Rattle.lint_commands.specs.Commands.{taclint_command}
+use Rattle.lint_commands.specs.Kinds.{colorings, sizes}
+use Rattle.lint_commands.specs.code.Matches.{HoldsOptions}
+
+pub record HasOptions (a : App) (bounds colors : Bor (List PossibleValue)) : Type 0 where
+  pub plain : a.top.is_plain ≡ true
+  pub limits : lemmas.HasKind a (codes "limits") bounds
+  pub color : lemmas.HasKind a (codes "color") colors
+
+as_made : (bounds colors : Bor (List PossibleValue)) → HasOptions (taclint_command bounds colors) bounds colors
+as_made bounds colors = record {
+  plain = refl;
+  limits = record {
+    of_kind = (λ _. record { parser = refl; any_case = refl; least = refl; action = refl; simple = refl }, (other, (other, (other, (other, (other, (other, tt)))))));
+    kind_default = refl;
+  };
+  color = record {
+    of_kind = (other, (other, (other, (other, (λ _. record { parser = refl; any_case = refl; least = refl; action = refl; simple = refl }, (other, (other, tt)))))));
+    kind_default = refl;
+  };
+}
+
+as_built : (bounds colors : Bor (List PossibleValue)) → HasOptions (built (taclint_command bounds colors)) bounds colors
+as_built bounds colors = record {
+  plain = refl;
+  limits = record {
+    of_kind = (λ _. record { parser = refl; any_case = refl; least = refl; action = refl; simple = refl }, (other, (other, (other, (other, (other, (other, (other, tt))))))));
+    kind_default = refl;
+  };
+  color = record {
+    of_kind = (other, (other, (other, (other, (λ _. record { parser = refl; any_case = refl; least = refl; action = refl; simple = refl }, (other, (other, (other, tt))))))));
+    kind_default = refl;
+  };
+}
+
+pub has_options : (bounds colors : Bor (List PossibleValue)) (a : App) → (a ≡ taclint_command bounds colors) ⊎ (a ≡ built (taclint_command bounds colors))
+    → HasOptions a bounds colors
+has_options bounds colors a is = elim is [
+  | inl made ↦ subst (λ (b : App). HasOptions b bounds colors) (sym made) (as_made bounds colors)
+  | inr made ↦ subst (λ (b : App). HasOptions b bounds colors) (sym made) (as_built bounds colors)
+]
+
+pub options_held : (c : Command) (f : Found) (bounds colors : Bor (List PossibleValue)) → HasOptions (app_of c) bounds colors
+    → AreKindsOf sizes bounds.now → AreKindsOf colorings colors.now → ValuesPass c f → HasDefaults c f → HoldsOptions (rows_of f)
+options_held c f bounds colors has are_limits are_colorings passes defaults = record {
+  limits = lemmas.kind_held sizes c f (codes "limits") bounds (λ e. cc) has.plain has.limits are_limits passes defaults;
+  color = lemmas.kind_held colorings c f (codes "color") colors (λ e. cc) has.plain has.color are_colorings passes defaults;
+}

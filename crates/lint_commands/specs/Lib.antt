@@ -1,0 +1,6 @@
+pub mod Runs
+pub mod Kinds
+pub mod Commands
+pub mod Missing
+pub mod Styles
+pub mod code

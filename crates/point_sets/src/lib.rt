@@ -1,0 +1,10 @@
+//! The sets of an analysis before a statement and behind it, with the dummy definitions or without, written to any sink.
+#![tactic(auto)]
+
+mod behind;
+mod point_set;
+mod side;
+
+pub use behind::target_of;
+pub use point_set::{PointSet, write_point_set};
+pub use side::{Side, calls_at, has_behind, side_text};

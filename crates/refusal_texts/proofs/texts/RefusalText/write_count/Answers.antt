@@ -1,0 +1,8 @@
+use Rattle.text_pieces.proofs.sinks.Taking.{takes_then}
+use Rattle.refusal_texts.proofs.texts.RefusalText.write_count.Goals as goal
+
+pub returns : goal.returns
+returns g c =
+    takes_then _ _ _ _ _
+    (takes_then _ _ _ _ _ (takes_then _ _ _ _ _ c.write.ensures c.write-2.ensures) c.write_error_count.ensures)
+    c.write-3.ensures

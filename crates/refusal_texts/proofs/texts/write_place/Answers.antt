@@ -1,0 +1,12 @@
+use Rattle.text_pieces.proofs.sinks.Taking.{takes_then}
+use Rattle.refusal_texts.proofs.texts.write_place.Goals as goal
+
+pub returns : goal.returns
+returns g c =
+    takes_then _ _ _ _ _
+    (takes_then _ _ _ _ _
+    (takes_then _ _ _ _ _
+    (takes_then _ _ _ _ _ (takes_then _ _ _ _ _ c.write.ensures c.write-2.ensures) c.write_size.ensures)
+    c.write-3.ensures)
+    c.write_size-2.ensures)
+    c.write-4.ensures

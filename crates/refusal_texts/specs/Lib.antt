@@ -1,0 +1,2 @@
+pub mod RefusalTexts
+pub mod code

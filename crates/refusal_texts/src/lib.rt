@@ -1,0 +1,11 @@
+//! What is written of a file that is refused: its errors, with what stands there and how it is mended.
+#![tactic(auto)]
+
+mod quotes;
+mod sentences;
+mod texts;
+mod told;
+
+pub use std::alloc::AllocError as OutOfMemory;
+pub use texts::{RefusalText, refusal_text};
+pub use told::{ToldRefusal, told_refusals};

@@ -1,0 +1,2 @@
+pub mod HintLists
+pub mod HintTexts

@@ -1,0 +1,8 @@
+use Rattle.std.proofs.Common.{◌≡◌, drop}
+use Rattle.tac_lines.specs.code.Views.{tokens_view}
+use Rattle.tac_hints.specs.Names.{first_same}
+use Rattle.tac_hints.proofs.name_hints.find_same.Given as goal
+
+-- It is none of those so far.
+abbrev pub invariant-loop-token : goal.invariant-loop-token
+invariant-loop-token l = first_same l.name (tokens_view l.text (drop l.token-index l.tokens)) ≡ first_same l.name (tokens_view l.text l.tokens)

@@ -1,0 +1,64 @@
+//! Worked faults and hints, checked by computing them.
+
+ghost use Rattle.std.specs.Prelude.{◌≡◌, [], ◌∷◌, ◌++◌, codes, false, true};
+ghost use Rattle.tac_hints.specs.Examples.{hint_at, in_main, refused};
+ghost use Rattle.tac_faults.specs.Hints.Near.{is_near, is_same_but_for_capitals};
+ghost use Rattle.tac_faults.specs.Hints.Places.{bytes};
+ghost use Rattle.tac_hints.specs.Texts.{hint_of};
+ghost use Rattle.tac_faults.specs.Listed.{refusals_within};
+ghost use Rattle.tac_faults.specs.declared.slips.Hint.TheVariants.{Byte, Call, Capitals, Comment, EndLacks, First, Float, Misspelt, Nearest};
+ghost use Rattle.tac_faults.specs.declared.slips.Hint.TheVariants.{Negative, None, Reserved, SecondOperator, Semicolon};
+ghost use Rattle.tac_lines.specs.declared.refusal.RefusalKind.TheVariants.{BadByte, DuplicateLabel, NoMain, Syntax, Unclosed, UnknownLabel};
+ghost use Rattle.tac_lines.specs.declared.token.Keyword.TheVariants.{Goto, If, Print};
+ghost use Rattle.tac_program.specs.declared.limits.Limits.TheVariants.{Standard};
+
+/// One byte more, fewer and other, and two neighbours swapped; not none, and not two.
+pub fn near_words()
+    ensures more { is_near (codes "calll") (codes "call") ≡ true }
+    ensures fewer { is_near (codes "cll") (codes "call") ≡ true }
+    ensures other { is_near (codes "cull") (codes "call") ≡ true }
+    ensures swapped { is_near (codes "clal") (codes "call") ≡ true }
+    ensures same { is_near (codes "call") (codes "call") ≡ false }
+    ensures two { is_near (codes "kul") (codes "call") ≡ false }
+    ensures capitals { is_same_but_for_capitals (codes "IFFALSE") (codes "ifFalse") ≡ true }
+{}
+
+/// Each line that is wrong is told once, and names only where none is.
+pub fn listed_faults()
+    ensures none { refusals_within Standard (codes "proc main\nend\n") ≡ [] }
+    ensures empty { refusals_within Standard [] ≡ refused NoMain 1 1 ∷ [] }
+    ensures each_line { refusals_within Standard (codes "proc main\nx = ; 2 $\ny = 1 2\ngoto L\nend\n")
+        ≡ refused BadByte 2 5 ∷ refused Syntax 3 7 ∷ [] }
+    ensures open_behind_refused { refusals_within Standard (codes "proc main {\nx = 1\n}\n")
+        ≡ refused BadByte 1 11 ∷ refused BadByte 3 1 ∷ refused Unclosed 4 1 ∷ [] }
+    ensures closed_behind_refused { refusals_within Standard (codes "proc main\nend 1\nproc p\nend") ≡ refused Syntax 2 5 ∷ [] }
+    ensures meant_words { refusals_within Standard (codes "Proc main\nx = 1\nEnd\nproc p\nend") ≡ refused Syntax 1 1 ∷ refused Syntax 3 4 ∷ [] }
+    ensures names_in_order { refusals_within Standard (in_main (codes "goto M\nL: L: skip"))
+        ≡ refused DuplicateLabel 3 4 ∷ refused UnknownLabel 2 6 ∷ [] }
+{}
+
+/// What is told of a fault of a line.
+pub fn line_hints()
+    ensures byte { hint_at BadByte 7 (codes "x = a $ b") ≡ Byte (bytes 16 17) }
+    ensures call { hint_at BadByte 7 (codes "call f(x)") ≡ Call (bytes 15 16) }
+    ensures semicolon { hint_at BadByte 6 (codes "x = y;") ≡ Semicolon }
+    ensures float { hint_at BadByte 6 (codes "x = 1.5") ≡ Float (bytes 14 17) }
+    ensures operator { hint_at Syntax 11 (codes "x = y + z + w") ≡ SecondOperator (bytes 20 21) }
+    ensures comment { hint_at Syntax 8 (codes "x = 1 // y") ≡ Comment (bytes 16 18) }
+    ensures capitals { hint_at Syntax 4 (codes "IF x goto L") ≡ Capitals If (bytes 10 12) }
+    ensures first_word { hint_at Syntax 7 (codes "pritn x") ≡ Misspelt Print (bytes 10 15) }
+    ensures later_word { hint_at Syntax 6 (codes "if x gto L") ≡ Misspelt Goto (bytes 15 18) }
+    ensures negative { hint_at Syntax 9 (codes "x = a + -5") ≡ Negative (bytes 18 20) }
+    ensures reserved { hint_at Syntax 5 (codes "x = end") ≡ Reserved (bytes 14 17) }
+    ensures none { hint_at Syntax 2 (codes "x++") ≡ None }
+    ensures elsewhere { hint_at BadByte 70 (codes "x++") ≡ None }
+{}
+
+/// What is told of a procedure that is open, and of names.
+pub fn text_hints()
+    ensures end_lacks { hint_of Standard (codes "# p\nproc p\nx = 1\nproc main\nend\n") (refused Syntax 4 1) ≡ EndLacks 2 (bytes 4 10) }
+    ensures end_lacks_last { hint_of Standard (codes "proc main") (refused Unclosed 1 10) ≡ EndLacks 1 (bytes 0 9) }
+    ensures first { hint_at DuplicateLabel 4 (codes "L: L: skip") ≡ First 2 (bytes 10 11) }
+    ensures nearest { hint_at UnknownLabel 11 (codes "top: goto tpo") ≡ Nearest (bytes 10 13) }
+    ensures no_main { hint_of Standard (codes "proc Main\nend\n") (refused NoMain 1 1) ≡ Nearest (bytes 5 9) }
+{}

@@ -1,0 +1,5 @@
+proc main
+  x = 1
+  return
+  print x
+end

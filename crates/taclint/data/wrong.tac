@@ -1,0 +1,3 @@
+proc main
+  x = y;
+end

@@ -1,0 +1,170 @@
+//! `taclint`: tells what is worth a look in programs of three-address code, or what is wrong with texts that are none.
+#![tactic(auto)]
+
+ghost use Rattle.std.specs.Prelude.{◌≡◌, ◌<◌, ◌-◌, ◌^◌, false};
+
+use flow_runs::{Fault, fault_line};
+use lint_commands::{Options, OutOfMemory, Request, Told, Wish, missing_line, run};
+use std::alloc::Global;
+use std::fs::File;
+use std::io::{ErrorKind, IsTerminal, Write};
+use std::process::ExitCode;
+use std::{env, io};
+use text_pieces::{FromRead, Source, ToWrite};
+
+/// The program's name.
+const NAME: &str = "taclint";
+
+/// What standard input is called in what is told of it.
+const STANDARD_INPUT: &str = "<stdin>";
+
+const REMARKS: u8 = 1;
+
+const WORDS: u8 = 2;
+
+const FAILED: u8 = 3;
+
+// Tells a line on standard error; where no memory was left to make it, fixed words.
+fn tell_line(rt: &HostRuntime, line: Result<Vec<u8>, OutOfMemory>) {
+    let mut errors = rt.stderr();
+    let _ = match line {
+        Ok(line) => errors.write_all(&line),
+        Err(_) => errors.write_all(b"taclint: out of memory\n"),
+    };
+}
+
+// Whether who reads standard output has gone away. A write that failed fails again.
+fn has_gone(rt: &HostRuntime) -> bool {
+    match rt.stdout().write(b"\n") {
+        Ok(_) => false,
+        Err(error) => error.kind() == ErrorKind::BrokenPipe,
+    }
+}
+
+// Tells a fault of a file. That a reader has gone away is told to nobody.
+fn tell_fault(rt: &HostRuntime, request: Request<'_>, name: &str, fault: &Fault) {
+    match (fault, request.procedure) {
+        (Fault::Write, _) if has_gone(rt) => {},
+        (Fault::NoProcedure, Some(procedure)) => {
+            tell_line(rt, missing_line(rt.alloc(), name.as_bytes(), procedure));
+        },
+        _ => tell_line(rt, fault_line(rt.alloc(), name, fault)),
+    }
+}
+
+fn closed_line(alloc: Global, name: &str, error: &io::Error) -> Result<Vec<u8>, OutOfMemory> {
+    let line = format!(in alloc; "{name}: cannot be opened: {error}\n")?;
+    Ok(line.into_bytes())
+}
+
+// Whether the environment says that colours are unwanted.
+fn has_no_color(rt: &HostRuntime) -> bool {
+    match env::var(rt, "NO_COLOR") {
+        Ok(value) => !value.is_empty(),
+        Err(_) => false,
+    }
+}
+
+// Tells of what a source has, and which status that is.
+fn look_at<S: Source>(
+    rt: &HostRuntime,
+    options: &Options,
+    request: Request<'_>,
+    name: &str,
+    source: &mut S,
+) -> u8
+    requires running { S.ended source.old ≡ false }
+    requires below { S.faults source.old < 2 ^ 32 - 1 }
+{
+    let mut sink = ToWrite::new(rt.stdout());
+    let wish = Wish {
+        limits: options.limits,
+        request,
+        name: name.as_bytes(),
+    };
+    match run(rt.alloc(), wish, source, &mut sink) {
+        Ok(Told::Nothing) => 0,
+        Ok(Told::Remarks) => if options.error { REMARKS } else { 0 },
+        Ok(Told::Errors) => FAILED,
+        Err(fault) => {
+            tell_fault(rt, request, name, &fault);
+            FAILED
+        }
+    }
+}
+
+fn look_at_file(rt: &HostRuntime, options: &Options, request: Request<'_>, name: &str) -> u8 {
+    if name == "-" {
+        let mut source = FromRead::new(rt.stdin());
+        return look_at(rt, options, request, STANDARD_INPUT, &mut source);
+    }
+    match File::open(rt, name) {
+        Ok(file) => {
+            let mut source = FromRead::new(file);
+            look_at(rt, options, request, name, &mut source)
+        }
+        Err(error) => {
+            tell_line(rt, closed_line(rt.alloc(), name, &error));
+            FAILED
+        }
+    }
+}
+
+// The largest status of all files.
+fn look_at_all(rt: &HostRuntime, options: &Options) -> ExitCode {
+    let request = Request {
+        kinds: options.kinds,
+        procedure: options.procedure.as_ref().map(|name| name.as_bytes()),
+        style: options.style(rt.stdout().is_terminal(), has_no_color(rt)),
+    };
+    if options.files.is_empty() {
+        return ExitCode::from(look_at_file(rt, options, request, "-"));
+    }
+    let mut status = 0;
+    for name in &options.files {
+        status = status.max(look_at_file(rt, options, request, name.as_str()));
+    }
+    ExitCode::from(status)
+}
+
+// Tells help on standard output, and what is wrong with the words on standard error.
+fn tell_words(rt: &HostRuntime, error: &clap::Error) -> ExitCode {
+    if error.kind() == clap::error::ErrorKind::OutOfMemory {
+        tell_line(rt, Err(OutOfMemory));
+        return ExitCode::from(FAILED);
+    }
+    let told = error.print(rt);
+    if error.exit_code() != 0 {
+        return ExitCode::from(WORDS);
+    }
+    match told {
+        Ok(()) => ExitCode::SUCCESS,
+        Err(_) => ExitCode::from(FAILED),
+    }
+}
+
+fn run_words(rt: &HostRuntime) -> io::Result<ExitCode> {
+    let owned: Vec<String> = env::args(rt)?.collect(rt.alloc())?;
+    let mut words: Vec<&str> = owned.iter().map(|word| word.as_str()).collect(rt.alloc())?;
+    if words.len() <= 1 && rt.stdin().is_terminal() {
+        words.push("--help")?;
+    }
+    match Options::from_words(rt.alloc(), &words) {
+        Ok(options) => Ok(look_at_all(rt, &options)),
+        Err(error) => Ok(tell_words(rt, &error)),
+    }
+}
+
+fn main(rt: HostRuntime) -> ExitCode {
+    match run_words(&rt) {
+        Ok(code) => code,
+        Err(error) => {
+            if error.kind() == ErrorKind::OutOfMemory {
+                tell_line(&rt, Err(OutOfMemory));
+                return ExitCode::from(FAILED);
+            }
+            let _ = rt.stderr().write_all(b"taclint: a word is no text\n");
+            ExitCode::from(WORDS)
+        }
+    }
+}
