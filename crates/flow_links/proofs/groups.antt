@@ -1,3 +1,4 @@
 pub mod CallLemmas
 pub mod ListLemmas
+pub mod SameLinks
 pub mod Written

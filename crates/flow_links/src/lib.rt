@@ -3,6 +3,7 @@
 
 mod call_edges;
 mod call_walk;
+mod edges;
 mod exits;
 mod keys;
 mod layout;
@@ -16,6 +17,7 @@ mod turns;
 mod values;
 mod walk;
 
+pub use edges::{has_call, has_site, has_step};
 pub use link::{CallLink, SiteLink};
 pub use links::Links;
 pub use std::alloc::AllocError as OutOfMemory;

@@ -1,7 +1,6 @@
 //! The procedures that touch columns of a problem, what is known of the others, and paths through procedures.
 #![tactic(auto)]
 
-mod edges;
 mod effects;
 mod effort;
 mod lists;

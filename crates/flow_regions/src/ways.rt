@@ -5,11 +5,10 @@ ghost use Rattle.flow_regions.specs.code.Ways.{AreWays, IsHang, IsHop, IsTree};
 ghost use Rattle.flow_regions.specs.declared.way.Way.{Way as WayValue};
 
 use crate::OutOfMemory;
-use crate::edges::{has_call, has_site, has_step};
 use crate::search::{Found, Hung, NONE, is_marked, number_at, set_number};
 use crate::wanted::Wanted;
 use crate::way::{Branch, Hang, Hop, Way};
-use flow_links::{CallLink, Links, SiteLink};
+use flow_links::{CallLink, Links, SiteLink, has_call, has_site, has_step};
 use std::alloc::Global;
 
 /// Paths to some points from their procedures' entries, and a tree of calls.

@@ -1,14 +1,11 @@
 -- Lists of ways and branches that get one more
-use Rattle.std.proofs.Common.{◌≡◌, ◌⊎◌, ◌<◌, ◌≤◌, ℕ, List, ◌&&◌, true, nat_eq, eqb-true, [], ◌∷◌, ◌++◌, Some, slice_get, length, suc, zero, inl, inr, refl, sym, ap, subst, ◌∙◌, arith}
+use Rattle.std.proofs.Common.{◌≡◌, ◌⊎◌, ◌<◌, ◌≤◌, ℕ, List, [], ◌∷◌, ◌++◌, Some, slice_get, length, suc, zero, inl, inr, refl, sym, ap, subst, ◌∙◌, arith}
 use Rattle.std.proofs.Math.ListN.{get_or-append}
-use Rattle.std.proofs.lemmas.Bool.{and_parts}
 use Rattle.std.proofs.lemmas.Option.{slice_get_within}
 use Rattle.flow_graph.specs.Paths.{IsEdge}
 use Rattle.flow_graph.specs.declared.edge.Edge.TheVariants.{Step as step}
 use Rattle.flow_links.specs.LinkLists.{IsCallLink, IsSiteLink}
 use Rattle.flow_links.specs.Shapes.{LinkedProgram, directed_shape}
-use Rattle.flow_links.specs.declared.link.CallLink.{CallLink}
-use Rattle.flow_links.specs.declared.link.SiteLink.{SiteLink}
 use Rattle.flow_regions.specs.code.Ways.{AreWays, IsHang, IsHop, IsTree, point_in, procedure_in}
 use Rattle.flow_regions.specs.code.Ways.{begins, by_call, by_site, by_step, is_root}
 use Rattle.flow_regions.specs.declared.way.Branch.{Branch}
@@ -76,19 +73,6 @@ module _ (linked : LinkedProgram) where
         (subst (λ (b : Branch). IsHang linked ways (tree ++ last ∷ []) (length tree) b.procedure b.hang) is.1
         (hang_more ways tree last (length tree) last.procedure last.hang (omega arith) hang))
   ]
-
--- links that a test finds the same
-pub same_call : (link call : CallLink) → (nat_eq link.exit call.exit && nat_eq link.after call.after) ≡ true → link ≡ call
-same_call link call test =
-    let (exit, after) = and_parts (nat_eq link.exit call.exit) (nat_eq link.after call.after) test in
-    ap (λ x. let l : CallLink = record { exit = x; after = link.after } in l) (eqb-true link.exit call.exit exit)
-    ∙ ap (λ x. let l : CallLink = record { exit = call.exit; after = x } in l) (eqb-true link.after call.after after)
-
-pub same_site : (link call : SiteLink) → (nat_eq link.point call.point && nat_eq link.callee call.callee) ≡ true → link ≡ call
-same_site link call test =
-    let (point, callee) = and_parts (nat_eq link.point call.point) (nat_eq link.callee call.callee) test in
-    ap (λ x. let l : SiteLink = record { point = x; callee = link.callee } in l) (eqb-true link.point call.point point)
-    ∙ ap (λ x. let l : SiteLink = record { point = call.point; callee = x } in l) (eqb-true link.callee call.callee callee)
 
 -- empty lists
 pub no_ways : (linked : LinkedProgram) → AreWays linked []
