@@ -1,4 +1,2 @@
 pub mod Graphs
-pub mod ManyWhys
 pub mod Numbered
-pub mod Whys

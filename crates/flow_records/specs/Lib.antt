@@ -1,4 +1,3 @@
-pub mod Around
 pub mod Edges
 pub mod Facts
 pub mod Faults
@@ -11,6 +10,3 @@ pub mod Remarks
 pub mod Rooms
 pub mod Statements
 pub mod Texts
-pub mod Why
-pub mod Whys
-pub mod code

@@ -104,8 +104,8 @@ pub struct NumberedFacts {
     pub bits: (u32, u32),
 }
 
-/// The analysis of a number.
-pub(crate) fn find_analysis(number: u32) -> Option<Analysis>
+/// The analysis of a number, where there is one: 0 to 3 in the order of [`Analysis`].
+pub fn find_analysis(number: u32) -> Option<Analysis>
     ensures { result ≡ analysis_of number }
 {
     match number {

@@ -9,7 +9,6 @@
 //! - `BadRoom`, where the room is not for as many as there are, or is too small for a list. `OutOfMemory` only where memory was refused.
 #![tactic(auto)]
 
-mod around;
 mod calls;
 mod edges;
 mod fault;
@@ -23,13 +22,10 @@ mod rooms;
 mod statements;
 mod text;
 mod texts;
-mod why;
-mod whys;
 
-pub use around::{NumberedNearby, around_of_kept, doubt_origin_of_kept};
 pub use calls::{
-    NumberedFacts, definitions_of_text, expressions_of_text, facts_of_text, names_of_text,
-    points_of_text, sizes_of_text,
+    NumberedFacts, definitions_of_text, expressions_of_text, facts_of_text, find_analysis,
+    names_of_text, points_of_text, sizes_of_text,
 };
 pub use edges::{NumberedEdge, edges_of_kept};
 pub use fault::Fault;
@@ -46,5 +42,3 @@ pub use rooms::put_list;
 pub use statements::NumberedStatement;
 pub use text::find_limits;
 pub use texts::{listing_of_text, put_listing, report_of_text};
-pub use why::{NumberedFact, NumberedHop, why_of_kept};
-pub use whys::{NumberedWhy, whys_of_kept};

@@ -3,7 +3,7 @@
 
 ghost use Rattle.std.specs.Prelude.{◌≡◌, length};
 ghost use Rattle.flow_graph.specs.Points.{point_count};
-ghost use Rattle.flow_records.specs.Around.{AreAround, IsAroundFault, IsPointFault, TellsDoubt};
+ghost use Rattle.reason_records.specs.Around.{AreAround, IsAroundFault, IsPointFault, TellsDoubt};
 ghost use Rattle.flow_records.specs.Edges.{IsEdgesFault, edges_between};
 ghost use Rattle.flow_records.specs.Flags.{AreDoubts, ArePathsOfNumber, IsFlagsFault, IsPathsFault};
 ghost use Rattle.tacflow_c.specs.Handles.{IsAsked};
@@ -13,15 +13,18 @@ ghost use Rattle.flow_records.specs.Parts.{AreParts};
 ghost use Rattle.flow_records.specs.Remarks.{AreNumberedRemarks};
 ghost use Rattle.flow_records.specs.Statements.{statement_part};
 ghost use Rattle.flow_records.specs.Numbers.{end_of};
-ghost use Rattle.flow_records.specs.Why.{IsWhyFault, IsWhyKept, TellsWhy};
-ghost use Rattle.flow_records.specs.Whys.{AreWhys, IsWhysFault};
+ghost use Rattle.reason_records.specs.Why.{IsWhyFault, IsWhyKept, TellsWhy};
+ghost use Rattle.reason_records.specs.Whys.{AreWhys, IsWhysFault};
 
 use crate::handle::Handle;
 use crate::statuses::asked_status;
 use flow_records::{
-    NumberedEdge, NumberedFact, NumberedHop, NumberedNearby, NumberedRemark, NumberedStatement,
-    NumberedWhy, around_of_kept, doubt_origin_of_kept, doubtful_of_kept, edges_of_kept,
-    paths_of_kept, remarks_of_kept, statements_of_kept, why_of_kept, whys_of_kept,
+    NumberedEdge, NumberedRemark, NumberedStatement, doubtful_of_kept, edges_of_kept,
+    paths_of_kept, remarks_of_kept, statements_of_kept,
+};
+use reason_records::{
+    NumberedFact, NumberedHop, NumberedNearby, NumberedWhy, around_of_kept, doubt_origin_of_kept,
+    why_of_kept, whys_of_kept,
 };
 use std::alloc::Global;
 

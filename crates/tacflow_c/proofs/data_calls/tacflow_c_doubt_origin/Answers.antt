@@ -1,5 +1,5 @@
 use Rattle.std.proofs.Common.{◌≡◌, rules}
-use Rattle.flow_records.specs.Around.{IsPointFault, TellsDoubt}
+use Rattle.reason_records.specs.Around.{IsPointFault, TellsDoubt}
 use Rattle.tacflow_c.proofs.answers.Asked.{asked}
 use Rattle.tacflow_c.proofs.data_calls.tacflow_c_doubt_origin.Goals as goal
 

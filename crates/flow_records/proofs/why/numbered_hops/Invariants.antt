@@ -1,6 +1,0 @@
-use Rattle.std.proofs.Common.{◌≡◌, map, take}
-use Rattle.flow_records.specs.Why.{hop_part}
-use Rattle.flow_records.proofs.why.numbered_hops.Given as goal
-
-abbrev pub invariant-loop-hop : goal.invariant-loop-hop
-invariant-loop-hop l = l.numbered.items ≡ map hop_part (take l.hop-index l.hops)

@@ -1,4 +1,0 @@
-use Rattle.flow_records.proofs.why.witness_over.Goals as goal
-
-pub returns : goal.returns
-returns c = c.witness_at.ensures.witness

@@ -1,0 +1,2 @@
+pub mod ManyWhys
+pub mod Whys

@@ -1,0 +1,4 @@
+pub mod Around
+pub mod Why
+pub mod Whys
+pub mod code
