@@ -9,6 +9,8 @@ use Rattle.tac_faults.specs.Listed.{most_told, refusals_within}
 use Rattle.tac_faults.specs.declared.slips.Bytes.{Bytes}
 use Rattle.tac_faults.specs.declared.slips.Hint.{Hint}
 use Rattle.tac_faults.specs.declared.slips.Hint.TheVariants as hint
+use Rattle.tac_faults.specs.declared.slips.Slip.{Slip}
+use Rattle.tac_faults.specs.declared.slips.Slip.TheVariants as slip
 use Rattle.tac_lines.specs.LineFaults.{number_of_kind}
 use Rattle.tac_lines.specs.code.Views.{keyword_text}
 use Rattle.tac_lines.specs.declared.refusal.Refusal.{Refusal}
@@ -61,6 +63,7 @@ kind_words kind.DuplicateCallee = codes "this call lists the procedure already"
 -- What stands there, and how it is mended: a sentence that begins with bytes of the text, or with its words,
 abbrev pub quoted_bytes : Hint → Option Bytes
 quoted_bytes hint.None = None
+quoted_bytes (hint.Slip s b) = Some b
 quoted_bytes hint.ByteOrderMark = None
 quoted_bytes hint.CarriageReturn = None
 quoted_bytes hint.Semicolon = None
@@ -95,8 +98,27 @@ quoted_bytes (hint.First line b) = Some b
 quoted_bytes (hint.LongText count) = None
 quoted_bytes (hint.ManyProcedures count) = None
 
+abbrev pub slip_words : Slip → List ℕ
+slip_words slip.Assignment = codes " sets no variable: a statement is written `x = y + z`"
+slip_words slip.Declaration = codes " declares nothing here: a variable is there where it is used"
+slip_words slip.Opening = codes " opens no procedure: write `proc NAME`, and `end` behind its last line"
+slip_words slip.Control = codes " is no word of the language: loops and branches are labels and jumps, as in `if a < b goto L`"
+slip_words slip.Pointer = codes " goes through no pointer, and there are none: a variable is used by its name alone"
+slip_words slip.Connective = codes " joins no tests: write two of them, one in each line"
+slip_words slip.NumberAndName = codes " is neither a number nor a name: a number has the digits 0 to 9 alone, and a name begins with no digit"
+slip_words slip.NumberForName = codes " is a number where a name has to stand"
+slip_words slip.OwnLine = codes " cannot stand here: `proc NAME` and `end` have lines of their own"
+slip_words slip.Parameters = codes " has no parameters, since all variables are global: `proc NAME` is the whole line"
+slip_words slip.Turned = codes " compares nothing: at most is written `<=`, at least is written `>=`"
+slip_words slip.Different = codes " compares nothing: different is written `!=`"
+slip_words slip.Negation = codes " begins no test: one that jumps where there is nothing begins with `ifFalse`"
+slip_words slip.Comma = codes " separates nothing: write a statement for each"
+slip_words slip.ColonInJump = codes " stands behind a label where it is set, and not where it is jumped to"
+slip_words slip.SecondStatement = codes " begins a second statement, and a line has one"
+
 abbrev pub sentence_words : Hint → List ℕ
 sentence_words hint.None = []
+sentence_words (hint.Slip s b) = slip_words s
 sentence_words hint.ByteOrderMark = codes "a byte order mark stands before the text: save it as UTF-8 without one"
 sentence_words hint.CarriageReturn = codes "a carriage return stands inside the line: end a line with a line feed, alone or behind a carriage return"
 sentence_words hint.Semicolon = codes "a statement ends with its line: leave the semicolon out"

@@ -1,13 +1,14 @@
 // What is told of a fault, in sentences.
 
 ghost use Rattle.std.specs.Prelude.{◌≡◌};
-ghost use Rattle.refusal_texts.specs.RefusalTexts.{hint_words, kind_words as words_of_kind, quoted_bytes, quoted_if, sentence_end, sentence_words};
+ghost use Rattle.refusal_texts.specs.RefusalTexts.{hint_words, kind_words as words_of_kind, quoted_bytes, quoted_if, sentence_end};
+ghost use Rattle.refusal_texts.specs.RefusalTexts.{sentence_words, slip_words as words_of_slip};
 ghost use Rattle.refusal_texts.specs.code.Endings.{ending_text};
 ghost use Rattle.text_pieces.specs.Pieces.{CanWrite, Writes};
 
 use crate::quotes::{write_part, write_quoted};
 use lint_styles::write_size;
-use tac_faults::{Bytes, Hint};
+use tac_faults::{Bytes, Hint, Slip};
 use tac_lines::{Keyword, RefusalKind};
 use text_pieces::{Pieces, Sink};
 
@@ -106,6 +107,68 @@ const LONG_TEXT: &[u8] = b"the text has more bytes than the limits allow";
 
 const PROCEDURES: &[u8] = b"there are more procedures than the limits allow, too many by ";
 
+const ASSIGNMENT: &[u8] = b" sets no variable: a statement is written `x = y + z`";
+
+const DECLARATION: &[u8] = b" declares nothing here: a variable is there where it is used";
+
+const OPENING: &[u8] = b" opens no procedure: write `proc NAME`, and `end` behind its last line";
+
+const CONTROL: &[u8] =
+    b" is no word of the language: loops and branches are labels and jumps, as in `if a < b goto L`";
+
+const POINTER: &[u8] =
+    b" goes through no pointer, and there are none: a variable is used by its name alone";
+
+const CONNECTIVE: &[u8] = b" joins no tests: write two of them, one in each line";
+
+const NUMBER_AND_NAME: &[u8] =
+    b" is neither a number nor a name: a number has the digits 0 to 9 alone, and a name begins with no digit";
+
+const NUMBER_FOR_NAME: &[u8] = b" is a number where a name has to stand";
+
+const OWN_LINE: &[u8] = b" cannot stand here: `proc NAME` and `end` have lines of their own";
+
+const PARAMETERS: &[u8] =
+    b" has no parameters, since all variables are global: `proc NAME` is the whole line";
+
+const TURNED: &[u8] = b" compares nothing: at most is written `<=`, at least is written `>=`";
+
+const DIFFERENT: &[u8] = b" compares nothing: different is written `!=`";
+
+const NEGATION: &[u8] =
+    b" begins no test: one that jumps where there is nothing begins with `ifFalse`";
+
+const COMMA: &[u8] = b" separates nothing: write a statement for each";
+
+const COLON_IN_JUMP: &[u8] =
+    b" stands behind a label where it is set, and not where it is jumped to";
+
+const SECOND_STATEMENT: &[u8] = b" begins a second statement, and a line has one";
+
+// The words of a slip.
+fn slip_words(slip: Slip) -> &'static [u8]
+    ensures { result.now ≡ words_of_slip slip }
+{
+    match slip {
+        Slip::Assignment => ASSIGNMENT,
+        Slip::Declaration => DECLARATION,
+        Slip::Opening => OPENING,
+        Slip::Control => CONTROL,
+        Slip::Pointer => POINTER,
+        Slip::Connective => CONNECTIVE,
+        Slip::NumberAndName => NUMBER_AND_NAME,
+        Slip::NumberForName => NUMBER_FOR_NAME,
+        Slip::OwnLine => OWN_LINE,
+        Slip::Parameters => PARAMETERS,
+        Slip::Turned => TURNED,
+        Slip::Different => DIFFERENT,
+        Slip::Negation => NEGATION,
+        Slip::Comma => COMMA,
+        Slip::ColonInJump => COLON_IN_JUMP,
+        Slip::SecondStatement => SECOND_STATEMENT,
+    }
+}
+
 /// How a sentence ends.
 #[derive(Clone, Copy)]
 pub enum Ending {
@@ -123,6 +186,7 @@ fn bytes_of(hint: Hint) -> Option<Bytes>
 {
     match hint {
         Hint::None => None,
+        Hint::Slip(_, bytes) => Some(bytes),
         Hint::ByteOrderMark => None,
         Hint::CarriageReturn => None,
         Hint::Semicolon => None,
@@ -165,6 +229,7 @@ fn words_of(hint: Hint) -> &'static [u8]
 {
     match hint {
         Hint::None => b"",
+        Hint::Slip(slip, _) => slip_words(slip),
         Hint::ByteOrderMark => MARK,
         Hint::CarriageReturn => RETURN,
         Hint::Semicolon => SEMICOLON,
@@ -207,6 +272,7 @@ fn ending_of(hint: Hint) -> Ending
 {
     match hint {
         Hint::None => Ending::Nothing,
+        Hint::Slip(_, _) => Ending::Nothing,
         Hint::ByteOrderMark => Ending::Nothing,
         Hint::CarriageReturn => Ending::Nothing,
         Hint::Semicolon => Ending::Nothing,

@@ -12,5 +12,5 @@ pub mod slips;
 mod told;
 
 pub use faults::refusals;
-pub use slips::{Bytes, Hint};
+pub use slips::{Bytes, Hint, Slip};
 pub use told::MOST_TOLD;

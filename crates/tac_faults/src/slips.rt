@@ -12,11 +12,50 @@ pub struct Bytes {
     pub stop: u32,
 }
 
+/// A slip of which its bytes are all that is told.
+#[derive(Clone, Copy, Debug, PartialEq, Eq)]
+pub enum Slip {
+    /// A sign behind the first name that sets no variable, as `+=`, `++`, `<-` or `==`.
+    Assignment,
+    /// A word with which other languages declare a variable.
+    Declaration,
+    /// A word with which they open a procedure.
+    Opening,
+    /// A word of their loops and branches.
+    Control,
+    /// `*` or `&` before a name.
+    Pointer,
+    /// `&&` or `||`.
+    Connective,
+    /// A number and a name with nothing between them.
+    NumberAndName,
+    /// A number where a name has to stand.
+    NumberForName,
+    /// What stands behind `end`, or behind `proc NAME`.
+    OwnLine,
+    /// A procedure's own name, before a parenthesis.
+    Parameters,
+    /// `=<` or `=>`.
+    Turned,
+    /// `<>`.
+    Different,
+    /// `!` at the beginning of a test.
+    Negation,
+    /// A comma.
+    Comma,
+    /// `:` behind the label of a jump.
+    ColonInJump,
+    /// The first word of a second statement in a line.
+    SecondStatement,
+}
+
 /// What stands at a fault, where it is one of the usual slips.
 #[derive(Clone, Copy, PartialEq, Eq)]
 pub enum Hint {
     /// None of these.
     None,
+    /// One of those of which its bytes are all that is told.
+    Slip(Slip, Bytes),
     /// A byte order mark at the text's start.
     ByteOrderMark,
     /// A carriage return that does not stand before a line feed.

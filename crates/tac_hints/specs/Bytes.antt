@@ -5,8 +5,10 @@ use Rattle.tac_lines.specs.Tokens.{Token}
 use Rattle.tac_program.specs.Spelling.{is_digit, is_name_byte}
 use Rattle.tac_faults.specs.declared.slips.Hint.{Hint}
 use Rattle.tac_faults.specs.declared.slips.Hint.TheVariants as hint
+use Rattle.tac_faults.specs.declared.slips.Slip.TheVariants as slip
 use Rattle.tac_faults.specs.Hints.Choices.{or_hint}
 use Rattle.tac_faults.specs.Hints.Places.{bytes, bytes_at, is_not_ascii, run_stop, stands}
+use Rattle.tac_slips.specs.Slips.{opening_hint}
 
 -- The bytes 239, 187 and 191 at the text's start.
 abbrev pub mark_hint : List ℕ → ℕ → Hint
@@ -19,6 +21,16 @@ called_hint text before place =
     if stands variable before (length before - 1) && not (stands (key (codes "proc")) before 0) then
     (if slice_index text place == 40 then hint.Call (bytes_at before (length before - 1))
     else if slice_index text place == 91 then hint.Index (bytes_at before (length before - 1)) else hint.None) else hint.None
+
+-- A parenthesis behind the name of a procedure, or in a line that begins as a procedure of another language does.
+abbrev pub parameters_hint : List ℕ → List Token → ℕ → Hint
+parameters_hint text before place =
+    if slice_index text place == 40 then
+    (if stands (key (codes "proc")) before 0 then hint.Slip slip.Parameters (bytes_at before (length before - 1)) else opening_hint before)
+    else hint.None
+
+abbrev pub comma_hint : List ℕ → ℕ → Hint
+comma_hint text place = if slice_index text place == 44 then hint.Slip slip.Comma (bytes place (place + 1)) else hint.None
 
 -- A point directly behind a number.
 abbrev pub float_hint : List ℕ → List Token → ℕ → Hint
@@ -55,5 +67,6 @@ begun_hint text place =
 -- Of a bad byte at a place, by the tokens of its line before it.
 abbrev pub byte_hint : List ℕ → List Token → ℕ → Hint
 byte_hint text before place =
-    or_hint (or_hint (or_hint (or_hint (or_hint (mark_hint text place) (called_hint text before place)) (float_hint text before place))
-    (fraction_hint text place)) (lone_hint (slice_index text place))) (begun_hint text place)
+    or_hint (or_hint (or_hint (or_hint (or_hint (or_hint (or_hint (mark_hint text place) (parameters_hint text before place))
+    (called_hint text before place)) (float_hint text before place)) (fraction_hint text place)) (comma_hint text place))
+    (lone_hint (slice_index text place))) (begun_hint text place)

@@ -14,6 +14,7 @@ use Rattle.tac_faults.specs.declared.slips.Hint.TheVariants as hint
 use Rattle.tac_faults.specs.Hints.Choices.{or_hint}
 use Rattle.tac_faults.specs.Hints.Near.{is_near, is_same_but_for_capitals}
 use Rattle.tac_faults.specs.Hints.Places.{bytes, bytes_at, name_at, stands}
+use Rattle.tac_slips.specs.Slips.{first_slip, later_slip, second_slip}
 
 abbrev pub is_keyword_word : Word → Bool
 is_keyword_word (name s) = false
@@ -54,10 +55,10 @@ all_keywords =
     keyword.Proc ∷ keyword.End ∷ keyword.Goto ∷ keyword.If ∷ keyword.IfFalse ∷ keyword.Call ∷ keyword.Return ∷ keyword.Read ∷ keyword.Print
     ∷ keyword.Skip ∷ []
 
--- The line's first token is wrong: `proc` is misspelt there, or the line stands outside a procedure.
+-- The line's first token is wrong: `proc` is misspelt there, it is as in other languages, or the line stands outside a procedure.
 abbrev pub first_hint : List Token → Hint
 first_hint ts =
-    or_hint (keyword_hint (keyword.Proc ∷ []) (name_at ts 0) (bytes_at ts 0))
+    or_hint (or_hint (keyword_hint (keyword.Proc ∷ []) (name_at ts 0) (bytes_at ts 0)) (first_slip ts))
     (if stands variable ts 0 || is_keyword ts 0 then hint.Outside (bytes_at ts 0) else hint.None)
 
 -- Behind labels the first token is wrong.
@@ -82,7 +83,7 @@ begun_by ts =
     else hint.None
 
 abbrev pub second_hint : List Token → Hint
-second_hint ts = or_hint (or_hint (taken_hint ts) (returned_hint ts)) (begun_by ts)
+second_hint ts = or_hint (or_hint (or_hint (taken_hint ts) (returned_hint ts)) (second_slip ts)) (begun_by ts)
 
 -- The n-th token is wrong, or there is none.
 abbrev pub unfinished_hint : List Token → ℕ → Hint
@@ -129,9 +130,10 @@ callees_hint ts n =
 
 abbrev pub later_hint : List Token → ℕ → Hint
 later_hint ts n =
-    or_hint (or_hint (or_hint (or_hint (or_hint (or_hint (or_hint (unfinished_hint ts n) (equals_hint ts n)) (then_hint ts n)) (goto_hint ts n))
-    (reserved_hint ts n)) (negative_hint ts n)) (operator_hint ts n)) (callees_hint ts n)
+    or_hint (or_hint (or_hint (or_hint (or_hint (or_hint (or_hint (or_hint (unfinished_hint ts n) (later_slip ts n)) (equals_hint ts n)) (then_hint ts n))
+    (goto_hint ts n)) (reserved_hint ts n)) (negative_hint ts n)) (operator_hint ts n)) (callees_hint ts n)
 
 -- Of a statement whose n-th token is the first that is wrong.
 abbrev pub statement_hint : List Token → ℕ → Hint
-statement_hint ts n = if n == 0 then labelled_hint ts else or_hint (if n == 1 then second_hint ts else hint.None) (later_hint ts n)
+statement_hint ts n =
+    if n == 0 then or_hint (labelled_hint ts) (first_slip ts) else or_hint (if n == 1 then second_hint ts else hint.None) (later_hint ts n)

@@ -39,10 +39,12 @@ abbrev pub long_name_hint : Bytes → Hint
 long_name_hint b = hint.LongName b (b.stop - b.start - longest_name)
 
 -- Of a line that is no line form, by its tokens and the first wrong place.
+abbrev pub form_hint : List Token → ℕ → Hint
+form_hint ts place =
+    if count_before ts place == 0 then first_hint ts else statement_hint (behind_labels ts) (count_before (behind_labels ts) place)
+
 abbrev pub syntax_hint : List ℕ → List Token → ℕ → Hint
-syntax_hint text ts place =
-    or_hint (comment_hint text place)
-    (if count_before ts place == 0 then first_hint ts else statement_hint (behind_labels ts) (count_before (behind_labels ts) place))
+syntax_hint text ts place = or_hint (comment_hint text place) (form_hint ts place)
 
 -- Of a fault that a line shows by itself.
 abbrev pub token_hint : RefusalKind → List ℕ → List Token → ℕ → Hint

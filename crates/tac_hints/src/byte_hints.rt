@@ -2,15 +2,17 @@
 
 ghost use Rattle.std.specs.Prelude.{◌≡◌, ◌+◌, ◌<◌, ◌^◌, length};
 ghost use Rattle.tac_hints.specs.Bytes.{begun_hint as of_begun, byte_hint as of_byte, float_hint as of_float, fraction_hint as of_fraction};
-ghost use Rattle.tac_hints.specs.Bytes.{called_hint as of_called, lone_hint as of_lone, mark_hint as of_mark};
+ghost use Rattle.tac_hints.specs.Bytes.{called_hint as of_called, comma_hint as of_comma, lone_hint as of_lone, mark_hint as of_mark};
+ghost use Rattle.tac_hints.specs.Bytes.{parameters_hint as of_parameters};
 ghost use Rattle.tac_lines.specs.code.Views.{tokens_view};
 
 use tac_faults::places::{
     byte_at, bytes_at, digit_stop, is_digit, is_name_byte, is_not_ascii, name_stop, not_ascii_stop,
     stands,
 };
-use tac_faults::slips::{Bytes, Hint, or_hint_of};
+use tac_faults::slips::{Bytes, Hint, Slip, or_hint_of};
 use tac_lines::{Keyword, Slot, Token};
+use tac_slips::opening_hint;
 
 /// The byte order mark at the text's start.
 fn mark_hint(text: &[u8], place: usize) -> Hint
@@ -36,6 +38,41 @@ fn called_hint(text: &[u8], before: &[Token], place: usize) -> Hint
         Hint::Call(bytes_at(before, last))
     } else if byte == b'[' {
         Hint::Index(bytes_at(before, last))
+    } else {
+        Hint::None
+    }
+}
+
+/// A parenthesis behind the name of a procedure, or in a line that begins as a procedure of another language does.
+fn parameters_hint(text: &[u8], before: &[Token], place: usize) -> Hint
+    ensures { result ≡ of_parameters text.now (tokens_view text.now before.now) place }
+{
+    if byte_at(text, place) != b'(' {
+        return Hint::None;
+    }
+    if stands(Slot::Keyword(Keyword::Proc), before, 0) {
+        Hint::Slip(
+            Slip::Parameters,
+            bytes_at(before, before.len().saturating_sub(1)),
+        )
+    } else {
+        opening_hint(text, before)
+    }
+}
+
+fn comma_hint(text: &[u8], place: usize) -> Hint
+    requires within { place < length text.now }
+    requires small { length text.now < 2 ^ 32 }
+    ensures { result ≡ of_comma text.now place }
+{
+    if byte_at(text, place) == b',' {
+        Hint::Slip(
+            Slip::Comma,
+            Bytes {
+                start: place as u32,
+                stop: (place + 1) as u32,
+            },
+        )
     } else {
         Hint::None
     }
@@ -126,9 +163,11 @@ pub fn byte_hint(text: &[u8], before: &[Token], place: usize) -> Hint
     requires small { length text.now < 2 ^ 32 }
     ensures { result ≡ of_byte text.now (tokens_view text.now before.now) place }
 {
-    let hint = or_hint_of(mark_hint(text, place), called_hint(text, before, place));
+    let hint = or_hint_of(mark_hint(text, place), parameters_hint(text, before, place));
+    let hint = or_hint_of(hint, called_hint(text, before, place));
     let hint = or_hint_of(hint, float_hint(text, before, place));
     let hint = or_hint_of(hint, fraction_hint(text, place));
+    let hint = or_hint_of(hint, comma_hint(text, place));
     let hint = or_hint_of(hint, lone_hint(byte_at(text, place)));
     or_hint_of(hint, begun_hint(text, place))
 }

@@ -7,7 +7,10 @@ ghost use Rattle.tac_faults.specs.Hints.Places.{bytes};
 ghost use Rattle.tac_hints.specs.Texts.{hint_of};
 ghost use Rattle.tac_faults.specs.Listed.{refusals_within};
 ghost use Rattle.tac_faults.specs.declared.slips.Hint.TheVariants.{Byte, Call, Capitals, Comment, EndLacks, First, Float, Misspelt, Nearest};
-ghost use Rattle.tac_faults.specs.declared.slips.Hint.TheVariants.{Negative, None, Reserved, SecondOperator, Semicolon};
+ghost use Rattle.tac_faults.specs.declared.slips.Hint.TheVariants.{Negative, None, Reserved, SecondOperator, Semicolon, Slip};
+ghost use Rattle.tac_faults.specs.declared.slips.Slip.TheVariants.{Assignment, ColonInJump, Comma, Connective, Control, Declaration, Different};
+ghost use Rattle.tac_faults.specs.declared.slips.Slip.TheVariants.{Negation, NumberAndName, NumberForName, Opening, OwnLine, Parameters, Pointer};
+ghost use Rattle.tac_faults.specs.declared.slips.Slip.TheVariants.{SecondStatement, Turned};
 ghost use Rattle.tac_lines.specs.declared.refusal.RefusalKind.TheVariants.{BadByte, DuplicateLabel, NoMain, Syntax, Unclosed, UnknownLabel};
 ghost use Rattle.tac_lines.specs.declared.token.Keyword.TheVariants.{Goto, If, Print};
 ghost use Rattle.tac_program.specs.declared.limits.Limits.TheVariants.{Standard};
@@ -50,8 +53,36 @@ pub fn line_hints()
     ensures later_word { hint_at Syntax 6 (codes "if x gto L") ≡ Misspelt Goto (bytes 15 18) }
     ensures negative { hint_at Syntax 9 (codes "x = a + -5") ≡ Negative (bytes 18 20) }
     ensures reserved { hint_at Syntax 5 (codes "x = end") ≡ Reserved (bytes 14 17) }
-    ensures none { hint_at Syntax 2 (codes "x++") ≡ None }
+    ensures none { hint_at Syntax 7 (codes "x = y z") ≡ None }
     ensures elsewhere { hint_at BadByte 70 (codes "x++") ≡ None }
+{}
+
+/// What is told of words and signs that other languages have.
+pub fn slip_hints()
+    ensures increment { hint_at Syntax 2 (codes "x++") ≡ Slip Assignment (bytes 11 13) }
+    ensures compound { hint_at Syntax 3 (codes "x += 1") ≡ Slip Assignment (bytes 12 14) }
+    ensures compared { hint_at Syntax 3 (codes "x == 1") ≡ Slip Assignment (bytes 12 14) }
+    ensures declared { hint_at Syntax 5 (codes "int x") ≡ Slip Declaration (bytes 10 13) }
+    ensures opened { hint_of Standard (codes "def main\nend\n") (refused Syntax 1 1) ≡ Slip Opening (bytes 0 3) }
+    ensures opened_with_parameters { hint_of Standard (codes "int main() {\n") (refused BadByte 1 9) ≡ Slip Opening (bytes 0 3) }
+    ensures loops { hint_at Syntax 7 (codes "while x < 3") ≡ Slip Control (bytes 10 15) }
+    ensures otherwise { hint_at Syntax 13 (codes "if x goto L else goto M") ≡ Slip Control (bytes 22 26) }
+    ensures pointer { hint_at Syntax 1 (codes "*p = 1") ≡ Slip Pointer (bytes 10 12) }
+    ensures address { hint_at Syntax 5 (codes "x = &y") ≡ Slip Pointer (bytes 14 16) }
+    ensures connective { hint_at Syntax 6 (codes "if a && b goto L") ≡ Slip Connective (bytes 15 17) }
+    ensures assigned_connective { hint_at Syntax 8 (codes "x = a || b") ≡ Slip Connective (bytes 16 18) }
+    ensures joined { hint_at Syntax 6 (codes "x = 0x1F") ≡ Slip NumberAndName (bytes 14 18) }
+    ensures joined_first { hint_at Syntax 1 (codes "1x = 2") ≡ Slip NumberAndName (bytes 10 12) }
+    ensures number { hint_at Syntax 6 (codes "goto 10") ≡ Slip NumberForName (bytes 15 17) }
+    ensures first_number { hint_at Syntax 1 (codes "5 = x") ≡ Slip NumberForName (bytes 10 11) }
+    ensures own_line { hint_at Syntax 5 (codes "end main") ≡ Slip OwnLine (bytes 14 18) }
+    ensures parameters { hint_of Standard (codes "proc main()\nend\n") (refused BadByte 1 10) ≡ Slip Parameters (bytes 5 9) }
+    ensures turned { hint_at Syntax 6 (codes "if x => y goto L") ≡ Slip Turned (bytes 15 17) }
+    ensures different { hint_at Syntax 7 (codes "if x <> y goto L") ≡ Slip Different (bytes 15 17) }
+    ensures negation { hint_at Syntax 4 (codes "if !x goto L") ≡ Slip Negation (bytes 13 14) }
+    ensures comma { hint_at BadByte 8 (codes "print x, y") ≡ Slip Comma (bytes 17 18) }
+    ensures colon { hint_at Syntax 7 (codes "goto L:") ≡ Slip ColonInJump (bytes 16 17) }
+    ensures second { hint_at Syntax 7 (codes "x = 1 y = 2") ≡ Slip SecondStatement (bytes 16 17) }
 {}
 
 /// What is told of a procedure that is open, and of names.

@@ -19,6 +19,7 @@ use tac_faults::near::{is_near, is_same_but_for_capitals};
 use tac_faults::places::{byte_at, bytes_at, name_at, stands};
 use tac_faults::slips::{Bytes, Hint, or_hint_of};
 use tac_lines::{Keyword, Slot, Token, TokenKind, stop_of};
+use tac_slips::{first_slip, later_slip, second_slip};
 
 static KEYWORDS: [Keyword; 10] = [
     Keyword::Proc,
@@ -142,10 +143,8 @@ pub fn first_hint(text: &[u8], tokens: &[Token]) -> Hint
     } else {
         Hint::None
     };
-    or_hint_of(
-        keyword_hint(&PROC, name_at(text, tokens, 0), bytes),
-        outside,
-    )
+    let proc = keyword_hint(&PROC, name_at(text, tokens, 0), bytes);
+    or_hint_of(or_hint_of(proc, first_slip(text, tokens)), outside)
 }
 
 /// Behind labels the first token is wrong.
@@ -206,6 +205,7 @@ fn second_hint(text: &[u8], tokens: &[Token]) -> Hint
     ensures { result ≡ of_second (tokens_view text.now tokens.now) }
 {
     let hint = or_hint_of(taken_hint(tokens), returned_hint(tokens));
+    let hint = or_hint_of(hint, second_slip(text, tokens));
     or_hint_of(hint, begun_hint(text, tokens))
 }
 
@@ -351,7 +351,8 @@ fn later_hint(text: &[u8], tokens: &[Token], at: usize) -> Hint
     requires { at ≤ length tokens.now }
     ensures { result ≡ of_later (tokens_view text.now tokens.now) at }
 {
-    let hint = or_hint_of(unfinished_hint(tokens, at), equals_hint(tokens, at));
+    let hint = or_hint_of(unfinished_hint(tokens, at), later_slip(text, tokens, at));
+    let hint = or_hint_of(hint, equals_hint(tokens, at));
     let hint = or_hint_of(hint, then_hint(text, tokens, at));
     let hint = or_hint_of(hint, goto_hint(text, tokens, at));
     let hint = or_hint_of(hint, reserved_hint(tokens, at));
@@ -366,7 +367,7 @@ pub fn statement_hint(text: &[u8], tokens: &[Token], at: usize) -> Hint
     ensures { result ≡ of_statement (tokens_view text.now tokens.now) at }
 {
     if at == 0 {
-        return labelled_hint(tokens);
+        return or_hint_of(labelled_hint(tokens), first_slip(text, tokens));
     }
     let second = if at == 1 {
         second_hint(text, tokens)

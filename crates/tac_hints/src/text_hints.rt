@@ -1,7 +1,7 @@
 // What is told on the mend of a fault.
 
 ghost use Rattle.std.specs.Prelude.{◌≡◌, ◌+◌, ◌-◌, ◌<◌, ◌≤◌, ◌^◌, ℕ, List, length, slice_range, take, IfOk};
-ghost use Rattle.tac_hints.specs.Texts.{hint_of, kind_hint as of_kind, line_hint as of_line, names_hint as of_names, nth_line};
+ghost use Rattle.tac_hints.specs.Texts.{form_hint as of_form, hint_of, kind_hint as of_kind, line_hint as of_line, names_hint as of_names, nth_line};
 ghost use Rattle.tac_hints.specs.Texts.{long_name_hint as of_long_name, opened_hint as of_opened, opened_line as of_opened_line};
 ghost use Rattle.tac_hints.specs.Texts.{place_of as place_in};
 ghost use Rattle.tac_hints.specs.Texts.{opens_again as opening, syntax_hint as of_syntax, token_hint as of_token};
@@ -66,17 +66,22 @@ fn long_name_hint(bytes: Bytes) -> Hint
 }
 
 /// Of a line that is no line form, by its tokens and the first wrong place.
+fn form_hint(text: &[u8], tokens: &[Token], place: usize) -> Hint
+    ensures { result ≡ of_form (tokens_view text.now tokens.now) place }
+{
+    if count_before(tokens, place) == 0 {
+        return first_hint(text, tokens);
+    }
+    let statement = behind_labels(tokens);
+    statement_hint(text, statement, count_before(statement, place))
+}
+
+/// The same, with comments as other languages have them.
 fn syntax_hint(text: &[u8], tokens: &[Token], place: usize) -> Hint
     requires { place + 2 < 2 ^ 32 }
     ensures { result ≡ of_syntax text.now (tokens_view text.now tokens.now) place }
 {
-    let hint = if count_before(tokens, place) == 0 {
-        first_hint(text, tokens)
-    } else {
-        let statement = behind_labels(tokens);
-        statement_hint(text, statement, count_before(statement, place))
-    };
-    or_hint_of(comment_hint(text, place), hint)
+    or_hint_of(comment_hint(text, place), form_hint(text, tokens, place))
 }
 
 /// Of a fault that a line shows by itself.
