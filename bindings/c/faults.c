@@ -74,10 +74,37 @@ static void no_limits(void) {
                tacflow_variables_within(limits, text, length, ends, 2, shown, sizeof shown, &place));
         expect("a listing within no limits", TACFLOW_BAD_LIMITS, tacflow_listing_within(limits, text, length, shown, 5, &size, &place));
         expect("a report within no limits", TACFLOW_BAD_LIMITS, tacflow_report_within(limits, text, length, shown, sizeof shown, &size, &place));
+        expect("a part within no limits", TACFLOW_BAD_LIMITS,
+               tacflow_report_part_within(limits, text, length, 0, 0, shown, sizeof shown, &size, &place));
         expect("facts within no limits", TACFLOW_BAD_LIMITS, tacflow_facts_within(limits, text, length, 4, 2, 1, 0, 2, flags, 3, words, 3, &place));
     }
     if (sizes.points != 0x55555555 || memcmp(words, before, sizeof words) || flags[0] != 9 || shown[0] != '.' || place.number != 7 || size != 7)
         wrong = puts("no limits: something was written") || 1;
+}
+
+/* The two parts by hand: both variables are in the second. The parts are named by the text's SHA-1, as `sha1sum` has it. */
+static void parts_of_the_report(void) {
+    static const char parts[2][160] = {
+        "part 1 of 2 of 9f9a495b9c2a199b447754f073a21e8ea2c4e6f0\npoints 3, variables 2, definitions 3, expressions 1\nend 1\n",
+        "part 2 of 2 of 9f9a495b9c2a199b447754f073a21e8ea2c4e6f0\npoints 3, variables 2, definitions 3, expressions 1\n"
+        "2: y may be used before it is set\nend 2\n",
+    };
+    static const uint32_t none[4][2] = { { 0, 2 }, { 3, 2 }, { 1, 4097 }, { 0, 0 } };
+    char shown[200];
+    size_t size = 7;
+    memset(shown, '.', sizeof shown);
+    for (int i = 0; i < 4; i++)
+        expect("no part", TACFLOW_BAD_RANGE, tacflow_report_part(text, length, none[i][0], none[i][1], shown, sizeof shown, &size, &place));
+    if (size != 7 || shown[0] != '.') wrong = puts("no part: something was written") || 1;
+    expect("a part in little room", TACFLOW_BAD_ROOM, tacflow_report_part(text, length, 2, 2, shown, 5, &size, &place));
+    if (size != strlen(parts[1]) || shown[0] != '.') wrong = puts("a part in little room: another size than by hand, or something was written") || 1;
+    for (uint32_t part = 1; part <= 2; part++) {
+        expect("a part", TACFLOW_OK, tacflow_report_part(text, length, part, 2, shown, sizeof shown, &size, &place));
+        if (size != strlen(parts[part - 1]) || memcmp(shown, parts[part - 1], size)) wrong = puts("a part: other than by hand") || 1;
+    }
+    expect("a part of no program", TACFLOW_REFUSED,
+           tacflow_report_part(no_program, sizeof no_program - 1, 1, 1, shown, sizeof shown, &size, &place));
+    expect("a part without a size", TACFLOW_BAD_POINTER, tacflow_report_part(text, length, 1, 1, shown, sizeof shown, NULL, &place));
 }
 
 int main(void) {
@@ -151,6 +178,7 @@ int main(void) {
     if (size != sizeof report - 1 || memcmp(shown, report, size) || shown[size] != '.') wrong = puts("a report: other than by hand") || 1;
     expect("a report of no program", TACFLOW_REFUSED, tacflow_report(no_program, sizeof no_program - 1, shown, sizeof shown, &size, &place));
     expect("no size", TACFLOW_BAD_POINTER, tacflow_report(text, length, shown, sizeof shown, NULL, &place));
+    parts_of_the_report();
     ranges_of_points();
     no_limits();
     return wrong;

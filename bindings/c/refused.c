@@ -44,6 +44,7 @@ static int call_facts(void) { return tacflow_facts(text, length, TACFLOW_BUSY, 0
 static int call_large_facts(void) { return tacflow_facts_within(TACFLOW_LARGE, text, length, TACFLOW_BUSY, 4, 8, 0, 2, flags, 4, words, 4, &place); }
 static int call_listing(void) { return tacflow_listing(text, length, shown, sizeof shown, &size, &place); }
 static int call_report(void) { return tacflow_report(text, length, shown, sizeof shown, &size, &place); }
+static int call_part(void) { return tacflow_report_part(text, length, 1, 2, shown, sizeof shown, &size, &place); }
 
 static int is_clear(const void *memory, size_t size) {
     for (size_t i = 0; i < size; i++)
@@ -74,6 +75,7 @@ int main(void) {
         && keeps("expressions", call_expressions, expressions, sizeof expressions)
         && keeps("procedures", call_procedures, names, sizeof names) && keeps("variables", call_variables, names, sizeof names)
         && keeps("facts", call_facts, words, sizeof words) && keeps("facts within the large limits", call_large_facts, words, sizeof words)
-        && keeps("listing", call_listing, shown, sizeof shown) && keeps("report", call_report, shown, sizeof shown);
+        && keeps("listing", call_listing, shown, sizeof shown) && keeps("report", call_report, shown, sizeof shown)
+        && keeps("part of the report", call_part, shown, sizeof shown);
     return !kept;
 }

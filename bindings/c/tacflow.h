@@ -54,7 +54,7 @@ enum tacflow_status {
     TACFLOW_REFUSED = 1,          /* the text is no program: the place says why and where */
     TACFLOW_OUT_OF_MEMORY = 2,    /* memory was refused */
     TACFLOW_BAD_ANALYSIS = 3,     /* there is no analysis of this number */
-    TACFLOW_BAD_RANGE = 4,        /* lo..hi are no bits of the analysis, or points, variables or expressions none of the program */
+    TACFLOW_BAD_RANGE = 4,        /* lo..hi are no bits of the analysis, points, variables or expressions none of the program, or it is no part */
     TACFLOW_BAD_ROOM = 5,         /* the room is not as large as the answer */
     TACFLOW_BAD_POINTER = 6,      /* a pointer is null */
     TACFLOW_BAD_LIMITS = 7,       /* there are no limits of this number */
@@ -338,6 +338,8 @@ uint32_t tacflow_c_variables(const uint8_t *text, size_t length, uint32_t limits
                              tacflow_place *place);
 uint32_t tacflow_c_listing(const uint8_t *text, size_t length, uint32_t limits, uint8_t *bytes, size_t room, size_t *size, tacflow_place *place);
 uint32_t tacflow_c_report(const uint8_t *text, size_t length, uint32_t limits, uint8_t *bytes, size_t room, size_t *size, tacflow_place *place);
+uint32_t tacflow_c_report_part(const uint8_t *text, size_t length, uint32_t limits, uint32_t part, uint32_t count, uint8_t *bytes, size_t room,
+                               size_t *size, tacflow_place *place);
 uint32_t tacflow_c_facts(const uint8_t *text, size_t length, uint32_t limits, uint32_t analysis, uint32_t first_point, uint32_t end_point,
                          uint32_t lo, uint32_t hi, uint8_t *flags, size_t flag_count, uint64_t *words, size_t word_count, tacflow_place *place);
 
@@ -502,6 +504,23 @@ static inline int tacflow_report_within(int limits, const char *text, size_t len
 
 static inline int tacflow_report(const char *text, size_t length, char *bytes, size_t room, size_t *size, tacflow_place *place) {
     return tacflow_report_within(TACFLOW_STANDARD, text, length, bytes, room, size, place);
+}
+
+/* Part `part` of the report cut into count parts, as `tacview --format report --part PART/COUNT` writes it, in the same way: what
+ * `tacview --merge` makes of all parts of a program, in any order, is the report. 1 <= part <= count <= 4096, else TACFLOW_BAD_RANGE. Several
+ * processes or machines may each make a part. */
+static inline int tacflow_report_part_within(int limits, const char *text, size_t length, uint32_t part, uint32_t count, char *bytes, size_t room,
+                                             size_t *size, tacflow_place *place) {
+    uint64_t nothing = 0;
+    const uint8_t *from = (const uint8_t *)tacflow_some(text, length, &nothing);
+    bytes = (char *)tacflow_some(bytes, room, &nothing);
+    if (!from || !bytes || !size || !place) return TACFLOW_BAD_POINTER;
+    return (int)tacflow_c_report_part(from, length, (uint32_t)limits, part, count, (uint8_t *)bytes, room, size, place);
+}
+
+static inline int tacflow_report_part(const char *text, size_t length, uint32_t part, uint32_t count, char *bytes, size_t room, size_t *size,
+                                      tacflow_place *place) {
+    return tacflow_report_part_within(TACFLOW_STANDARD, text, length, part, count, bytes, room, size, place);
 }
 
 /* Handles. A handle keeps the program of one text, with where its paths lead, and each call over it answers what the call over the text

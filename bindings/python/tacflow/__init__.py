@@ -30,6 +30,7 @@ from tacflow._errors import (
 )
 from tacflow._facts import Facts
 from tacflow._library import VERSION as __version__
+from tacflow._parts import report_part
 from tacflow._program import (
     Definition,
     Edge,
@@ -91,4 +92,5 @@ __all__ = [
     "__version__",
     "build",
     "open",
+    "report_part",
 ]

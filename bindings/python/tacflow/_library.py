@@ -235,6 +235,15 @@ def building() -> Any:
     return call
 
 
+def parting() -> Any:
+    """The call for a part of a report: text, length, limits, part, of how many, room, place."""
+    call = LIBRARY["tacflow_c_report_part"]
+    place = ctypes.POINTER(RawPlace)
+    call.argtypes = [ctypes.c_char_p, COUNT, NUMBER, NUMBER, NUMBER, *TEXT, place]
+    call.restype = ctypes.c_uint32
+    return call
+
+
 COUNT = ctypes.c_size_t
 NUMBER = ctypes.c_uint32
 BYTES = ctypes.POINTER(ctypes.c_uint8)
@@ -244,6 +253,7 @@ TABLE = (BYTES, COUNT, ctypes.POINTER(ctypes.c_uint64), COUNT)
 
 OPEN = opening()
 BUILD = building()
+REPORT_PART = parting()
 SHARE = call_of("share", ctypes.POINTER(RawHandle))
 CLOSE = call_of("close")
 SIZES = call_of("sizes_of", ctypes.POINTER(RawSizes))

@@ -789,8 +789,8 @@ def open(
     return opened(status, handle, size)
 
 
-def opened(status: int, handle: library.RawHandle, size: Limits) -> Program:
-    """The program of a handle that a call with this status opened."""
+def check_graph(status: int) -> None:
+    """Raises that a program is beyond the limits, or that memory was refused, by a status."""
     if status == library.TOO_MANY_POINTS:
         raise TooManyPoints("the program has more points than the limits allow")
     if status == library.TOO_MANY_BITS:
@@ -798,4 +798,9 @@ def opened(status: int, handle: library.RawHandle, size: Limits) -> Program:
     if status == library.OUT_OF_MEMORY:
         raise OutOfMemory("out of memory")
     assert status == library.OK, f"status {status}"
+
+
+def opened(status: int, handle: library.RawHandle, size: Limits) -> Program:
+    """The program of a handle that a call with this status opened."""
+    check_graph(status)
     return Program(handle, size, {})

@@ -58,6 +58,31 @@ class WhatAProgramIs(unittest.TestCase):
         told = "2: y may be used before it is set\n"
         self.assertEqual(self.program.report(), report + told)
 
+    def test_parts_of_the_report(self) -> None:
+        digest = "9f9a495b9c2a199b447754f073a21e8ea2c4e6f0"
+        counts = "points 3, variables 2, definitions 3, expressions 1\n"
+        first = f"part 1 of 2 of {digest}\n{counts}end 1\n"
+        told = "2: y may be used before it is set\n"
+        second = f"part 2 of 2 of {digest}\n{counts}{told}end 2\n"
+        self.assertEqual([tacflow.report_part(TEXT, part, 2) for part in (1, 2)], [first, second])
+        self.assertEqual(tacflow.report_part(TEXT, 2, 2, "large"), second)
+        for part, count in ((0, 1), (2, 1), (1, 4097)):
+            with self.assertRaises(tacflow.BadRange):
+                tacflow.report_part(TEXT, part, count)
+        with self.assertRaises(tacflow.Refused) as refused:
+            tacflow.report_part("proc main\n", 1, 1)
+        self.assertEqual(refused.exception.number, 5)
+        points = "proc main\n" + "skip\n" * 16384 + "end\n"
+        with self.assertRaises(tacflow.TooManyPoints):
+            tacflow.report_part(points, 1, 1)
+
+    def test_a_long_part(self) -> None:
+        text = "proc main\n" + "".join(f"  x = {n}\n" for n in range(4000)) + "end\n"
+        with tacflow.open(text) as long:
+            report = long.report()
+        lines = tacflow.report_part(text, 1, 1).split("\n", 1)[1]
+        self.assertEqual(lines, report + "end 1\n")
+
     def test_a_long_listing(self) -> None:
         text = "proc main\n" + "  print x\n" * 9000 + "end\n"
         with tacflow.open(text) as long:

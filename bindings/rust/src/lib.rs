@@ -81,7 +81,7 @@ pub enum Error {
     TooManyPoints,
     /// Some analysis of the program has more bits than the limits allow.
     TooManyBits,
-    /// The bits are none of the analysis, or the points none of the program.
+    /// The bits are none of the analysis, the points none of the program, or the part none of a report.
     BadRange,
     /// Memory was refused.
     OutOfMemory,
@@ -538,6 +538,16 @@ impl fmt::Display for Name<'_> {
             }
         }
     }
+}
+
+/// Part `part` of the report on a text's program cut into `count` parts, as `tacview --format report --part PART/COUNT` writes it:
+/// `tacview --merge` makes the report of all parts. The part names the text by its SHA-1.
+///
+/// # Errors
+///
+/// `BadRange` but where 1 <= `part` <= `count` <= 4096; and as those of [`Program::read`].
+pub fn report_part(text: &[u8], limits: Limits, part: u32, count: u32) -> Result<Vec<u8>, Error> {
+    raw::report_part(text, limits, part, count)
 }
 
 impl Program {

@@ -256,6 +256,17 @@ extern "C" {
         count: *mut usize,
     ) -> u32;
     fn tacflow_c_ask(handle: *mut RawHandle, queries: *const Query, count: usize, words: *mut u64, word_count: usize) -> u32;
+    fn tacflow_c_report_part(
+        text: *const u8,
+        length: usize,
+        limits: u32,
+        part: u32,
+        count: u32,
+        bytes: *mut u8,
+        room: usize,
+        size: *mut usize,
+        place: *mut Place,
+    ) -> u32;
     fn tacflow_c_listing_of(handle: *mut RawHandle, bytes: *mut u8, room: usize, size: *mut usize) -> u32;
     fn tacflow_c_report_of(handle: *mut RawHandle, bytes: *mut u8, room: usize, size: *mut usize) -> u32;
     fn tacflow_c_facts_of(
@@ -294,6 +305,36 @@ fn answered(status: u32) -> Result<(), Error> {
         21 => Err(Error::TooManyPoints),
         22 => Err(Error::TooManyBits),
         other => unreachable!("status {other} answers room, a number or a handle that this crate does not hand over"),
+    }
+}
+
+/// A part of the report on a text's program, and of how many.
+pub fn report_part(text: &[u8], limits: Limits, part: u32, count: u32) -> Result<Vec<u8>, Error> {
+    let (mut size, mut place) = (ROOM, Place::default());
+    loop {
+        let mut bytes = vec![0; size];
+        // SAFETY: the pointers and lengths are of slices and values that outlive the call.
+        let status = unsafe {
+            tacflow_c_report_part(
+                text.as_ptr(),
+                text.len(),
+                limits as u32,
+                part,
+                count,
+                bytes.as_mut_ptr(),
+                bytes.len(),
+                &mut size,
+                &mut place,
+            )
+        };
+        if status == 1 {
+            return Err(Error::Refused { number: place.number, line: place.line, column: place.column });
+        }
+        if status != BAD_ROOM {
+            answered(status)?;
+            bytes.truncate(size);
+            return Ok(bytes);
+        }
     }
 }
 

@@ -2,7 +2,7 @@
 
 use std::fmt::Write;
 use std::thread;
-use tacflow::{Analysis, Definition, Error, Expression, Limits, Operand, Program, Query, Table};
+use tacflow::{Analysis, Definition, Error, Expression, Limits, Operand, Program, Query, Table, report_part};
 
 const ANALYSES: [Analysis; 4] = [Analysis::Reach, Analysis::Live, Analysis::Avail, Analysis::Busy];
 
@@ -102,6 +102,23 @@ fn what_is_refused_and_written() {
     assert_eq!(program.listing().expect("a listing"), TEXT.as_bytes());
     let report = "points 3, variables 2, definitions 3, expressions 1\n2: y may be used before it is set\n";
     assert_eq!(program.report().expect("a report"), report.as_bytes());
+}
+
+#[test]
+fn parts_of_the_report() {
+    let part = |part, count| report_part(TEXT.as_bytes(), Limits::Standard, part, count);
+    let counts = "9f9a495b9c2a199b447754f073a21e8ea2c4e6f0\npoints 3, variables 2, definitions 3, expressions 1\n";
+    assert_eq!(part(1, 2), Ok(format!("part 1 of 2 of {counts}end 1\n").into_bytes()));
+    let told = "2: y may be used before it is set\n";
+    assert_eq!(part(2, 2), Ok(format!("part 2 of 2 of {counts}{told}end 2\n").into_bytes()));
+    for (which, count) in [(0, 1), (2, 1), (1, 4_097)] {
+        assert_eq!(part(which, count), Err(Error::BadRange));
+    }
+    assert_eq!(report_part(b"proc main\n", Limits::Large, 1, 1), Err(Error::Refused { number: 5, line: 2, column: 1 }));
+    let text = (0..4_000).fold("proc main\n".to_owned(), |text, n| text + &format!("x = {n}\n")) + "end\n";
+    let report = Program::read(text.as_str()).expect("a program").report().expect("a report");
+    let whole = report_part(text.as_bytes(), Limits::Standard, 1, 1).expect("a part");
+    assert!(report.len() > 65_536 && whole.ends_with(&[report, b"end 1\n".to_vec()].concat()));
 }
 
 #[test]

@@ -18,7 +18,7 @@ pub enum Fault {
     BadLimits,
     /// There is no analysis of this number.
     BadAnalysis,
-    /// The points are none of the program, or the bits none of the analysis.
+    /// The points are none of the program, the bits none of the analysis, or the part none of a report.
     BadRange,
     /// The room does not fit the answer.
     BadRoom,

@@ -5,7 +5,8 @@
 //! written nothing, but for the size of a list for which there is too little room:
 //!
 //! - `Refused`, where the text is no program within the limits; `TooManyPoints` or `TooManyBits`, where its program has no graph within them.
-//! - `BadAnalysis`, where a number is of no analysis; `BadRange`, where points are none of the program or bits none of the analysis.
+//! - `BadAnalysis`, where a number is of no analysis; `BadRange`, where points are none of the program, bits none of the analysis, or a part
+//!   none of a report.
 //! - `BadRoom`, where the room is not for as many as there are, or is too small for a list. `OutOfMemory` only where memory was refused.
 #![tactic(auto)]
 
@@ -18,6 +19,7 @@ mod names;
 mod parts;
 mod queries;
 mod remarks;
+mod report_parts;
 mod rooms;
 mod statements;
 mod text;
@@ -38,6 +40,7 @@ pub use names::{Named, fill_names};
 pub use parts::{Definition, Expression, Part, Point, Sizes};
 pub use queries::{NumberedQuery, ask_kept};
 pub use remarks::{NumberedRemark, remarks_of_kept};
+pub use report_parts::{ReportShare, report_part_of_text};
 pub use rooms::put_list;
 pub use statements::NumberedStatement;
 pub use text::find_limits;

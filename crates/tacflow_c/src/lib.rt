@@ -28,15 +28,15 @@ ghost use Rattle.flow_records.specs.Names.{AreNames, IsNamesFault};
 ghost use Rattle.flow_records.specs.declared.names.Named.TheVariants.{Procedures, Variables};
 ghost use Rattle.flow_records.specs.Parts.{AreParts, ArePartsOf, definition_part, expression_part, point_part, sizes_of};
 ghost use Rattle.flow_records.specs.Rooms.{HoldsList, IsListKept};
-ghost use Rattle.flow_records.specs.Texts.{IsListingFault, IsListingOf, IsReportFault, IsReportOf};
+ghost use Rattle.flow_records.specs.Texts.{IsListingFault, IsListingOf, IsPartFault, IsPartOf, IsReportFault, IsReportOf};
 ghost use Rattle.flow_records.specs.Faults.{HasGraph, IsFaultOf, IsRoomFault};
 ghost use Rattle.tacflow_c.specs.Statuses.{IsAnswered};
 
 pub use builds::BuildPlace;
 use flow_records::{
-    Definition, Expression, Named, NumberedFacts, Point, Sizes, definitions_of_text,
+    Definition, Expression, Named, NumberedFacts, Point, ReportShare, Sizes, definitions_of_text,
     expressions_of_text, facts_of_text, find_limits, listing_of_text, names_of_text,
-    points_of_text, report_of_text, sizes_of_text,
+    points_of_text, report_of_text, report_part_of_text, sizes_of_text,
 };
 pub use handle::Handle;
 pub use held::{Held, Opaque};
@@ -249,6 +249,33 @@ pub extern "C" fn tacflow_c_report(
 {
     match find_limits(limits) {
         Ok(within) => answer_status(report_of_text(alloc, text, within, bytes, size), place),
+        Err(fault) => fault_status(fault, place),
+    }
+}
+
+/// A part of the report on a text's program, of so many, and how long it is. Where there is too little room its length alone is told.
+#[unsafe(no_mangle)]
+#[tactic(auto, using(crate::proofs::answers::Answered::no_limits))]
+pub extern "C" fn tacflow_c_report_part(
+    alloc: Global,
+    text: &[u8],
+    limits: u32,
+    part: u32,
+    count: u32,
+    bytes: &mut [u8],
+    size: &mut usize,
+    place: &mut Place,
+) -> u32
+    ensures { IsAnswered result limits place.old place.new (λ l. HoldsList (IsPartOf l text.now count part) bytes.old bytes.new size.new)
+        (IsListKept bytes.old bytes.new size.old size.new)
+        (λ l. IsPartFault l text.now count part (length bytes.old) size.new) }
+{
+    let share = ReportShare { count, part };
+    match find_limits(limits) {
+        Ok(within) => answer_status(
+            report_part_of_text(alloc, text, within, share, bytes, size),
+            place,
+        ),
         Err(fault) => fault_status(fault, place),
     }
 }
