@@ -1,3 +1,4 @@
+mod ChosenRemarks
 mod Joining
 mod MergeLists
 mod MergedTexts
@@ -6,4 +7,5 @@ mod Numbers
 mod ReadingBack
 mod ReadingParts
 mod Wholes
+mod Words
 mod WrittenLines

@@ -1,12 +1,12 @@
 -- Lists that are made part by part.
-use Rattle.std.proofs.Common.{◌≡◌, refl, ℕ, zero, suc, ◌+◌, ◌-◌, ◌*◌, ◌/◌, ◌%◌, ◌<◌, ◌≤◌, ◌==◌, Bool, true, false, cond, if◌then◌else◌, List, [], ◌∷◌}
+use Rattle.std.proofs.Common.{◌≡◌, refl, ℕ, zero, suc, ◌+◌, ◌<◌, ◌≤◌, ◌==◌, Bool, true, false, cond, if◌then◌else◌, List, [], ◌∷◌}
 use Rattle.std.proofs.Common.{◌++◌}
-use Rattle.std.proofs.Common.{filter, flat_map, map, sym, ap, ◌∙◌, subst, arith, append-nil, append_assoc, eq-eqb, ◌⊎◌, inl, inr}
+use Rattle.std.proofs.Common.{filter, flat_map, sym, ap, ◌∙◌, subst, arith, eq-eqb, ◌⊎◌, inl, inr}
 use Rattle.std.specs.List.{range_with_len}
 use Rattle.std.proofs.lemmas.Bool.{ne_eqb, eqb-true}
 use Rattle.std.proofs.lemmas.Grind.{flat_map-append}
 use Rattle.std.proofs.lemmas.List.Elements.{filter-append}
-use Rattle.part_texts.proofs.Rising.{Below, Rises, rises_from}
+use Rattle.part_texts.proofs.Rising.{Below, Rises}
 
 pub filter_flat : {A : Type 0} (p : A → Bool) (h : ℕ → List A) (ks : List ℕ) → filter p (flat_map h ks) ≡ flat_map (λ k. filter p (h k)) ks
 filter_flat p h [] = refl

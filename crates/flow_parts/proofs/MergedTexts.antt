@@ -1,12 +1,10 @@
 -- The texts of all parts, merged in any order, are the report.
-use Rattle.std.proofs.Common.{◌≡◌, refl, lit<, ℕ, zero, suc, if◌then◌else◌, ◌+◌, ◌-◌, ◌^◌, ◌<◌, ◌≤◌, ◌==◌, ◌&&◌, Bool, true, false, not, List, []}
-use Rattle.std.proofs.Common.{◌∷◌, Ok, map, length, sym, ap, ◌∙◌, subst, arith, ◌⊎◌, inl, inr}
+use Rattle.std.proofs.Common.{◌≡◌, refl, ℕ, zero, suc, if◌then◌else◌, ◌+◌, ◌<◌, ◌≤◌, ◌==◌, Bool, true, false, not, List, []}
+use Rattle.std.proofs.Common.{◌∷◌, Ok, sym, ap, ◌∙◌, subst, arith, ◌⊎◌, inl, inr}
 use Rattle.std.specs.List.{list_all, range_with_len}
-use Rattle.std.specs.List.Sorted.{IsPermutation}
 use Rattle.std.proofs.lemmas.Bool.{and_parts, eqb-true}
 use Rattle.std.proofs.lemmas.List.FromFn.{length-range_with_len}
 use Rattle.std.proofs.lemmas.List.Sorted.{length_permutation}
-use Rattle.tac_program.specs.Programs.{Program}
 use Rattle.part_texts.specs.Lines.{is_line_feed, is_space}
 use Rattle.flow_parts.specs.MergeLaws.{MergedTextsAreTheReport, counts_of, is_plain, read_as}
 use Rattle.flow_parts.specs.Parts.{part_of}

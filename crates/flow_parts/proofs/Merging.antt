@@ -1,24 +1,24 @@
 -- The lines of all parts, put in order, are those of the report.
-use Rattle.std.proofs.Common.{◌≡◌, refl, lit<, ℕ, zero, suc, ◌+◌, ◌-◌, ◌*◌, ◌/◌, ◌%◌, ◌<◌, ◌≤◌, ◌==◌, ◌&&◌, Bool, true, false, cond}
+use Rattle.std.proofs.Common.{◌≡◌, refl, lit<, ℕ, zero, suc, ◌+◌, ◌*◌, ◌/◌, ◌%◌, ◌<◌, ◌≤◌, ◌==◌, ◌&&◌, Bool, true, false, cond}
 use Rattle.std.proofs.Common.{List, [], ◌∷◌, ◌++◌, Option, Some, None, IsSome, filter, flat_map, map, length, get_or, rules, codes, sym, ap, ◌∙◌}
 use Rattle.std.proofs.Common.{subst, arith, append-nil}
-use Rattle.std.proofs.Common.{if◌then◌else◌, eq-eqb, nat_le, nat_lt, ◌⊎◌, inl, inr}
+use Rattle.std.proofs.Common.{if◌then◌else◌, eq-eqb, ◌⊎◌, inl, inr}
 use Rattle.std.specs.List.{range_with_len}
 use Rattle.std.specs.List.{sum_by}
 use Rattle.std.specs.List.Sorted.{IsPermutation}
 use Rattle.std.proofs.Math.Nat.{div-add-mod, mod-lt}
 use Rattle.std.proofs.lemmas.Nat.{mod-mul-add}
 use Rattle.std.proofs.lemmas.List.Sums.{sum_by-cons}
-use Rattle.std.proofs.lemmas.Bool.{and_parts, eqb-true, leb-true, ltb-true, le-leb, lt-leb, lt-ltb, le-ltb, ne_eqb, cases_lt}
+use Rattle.std.proofs.lemmas.Bool.{and_parts, eqb-true, le-leb, lt-ltb, cases_lt}
 use Rattle.std.proofs.lemmas.List.Folds.{flat_map-map}
 use Rattle.std.proofs.lemmas.List.Sorted.{All-permutation, length_permutation, sum_by-IsPermutation}
 use Rattle.std.proofs.lemmas.List.FromFn.{get_or-range_with_len, length-range_with_len}
-use Rattle.flow_graph.specs.Points.{kind_at, point_count, points}
+use Rattle.flow_graph.specs.Points.{kind_at, point_count}
 use Rattle.tac_program.specs.Programs.{Program}
 use Rattle.tac_program.specs.Sound.{IsSound}
 use Rattle.tac_program.specs.declared.program.StmtKind.{StmtKind}
 use Rattle.flow_texts.specs.Tables.{line_at}
-use Rattle.flow_reports.specs.Reports.{Knowledge, busy_at, computed_at, count_line, dead_at, remark_line, remarks_at, remarks_when_reached, report_of}
+use Rattle.flow_reports.specs.Reports.{Knowledge, busy_at, computed_at, count_line, dead_at, remark_line, remarks_at, remarks_when_reached}
 use Rattle.flow_reports.specs.Reports.{unset_at}
 use Rattle.flow_reports.specs.Listed.{placed_at, remarks_of}
 use Rattle.flow_reports.specs.declared.listed.PlacedRemark.{PlacedRemark}
@@ -26,18 +26,16 @@ use Rattle.flow_reports.specs.declared.remark.Remark.{Remark}
 use Rattle.flow_reports.specs.declared.remark.Remark.TheVariants.{NeverReached, Unset, Computed, VeryBusy, Dead}
 use Rattle.flow_reports.proofs.knowledge.Listed.{report_is}
 use Rattle.part_texts.specs.Lines.{Line, place}
-use Rattle.part_texts.specs.Merges.{report_of_parts}
 use Rattle.part_texts.specs.Orders.{in_order_by}
 use Rattle.part_texts.proofs.OrderLists.{in_order_is, number_is}
-use Rattle.part_texts.proofs.Rising.{Below, Rises, below_more, between, between_above, between_below, kept_below, pieces, rises_from}
+use Rattle.part_texts.proofs.Rising.{Below, Rises, between, kept_below, pieces, rises_from}
 use Rattle.flow_parts.specs.Cuts.{is_in_part}
 use Rattle.flow_parts.specs.MergeLaws.{LinesRise, MergedPartsAreTheReport, counts_of, line_in, read_as}
 use Rattle.flow_parts.specs.PartLaws.{is_of, kind_of}
-use Rattle.flow_parts.specs.Parts.{part_remarks}
 use Rattle.flow_parts.proofs.MergeLists.{Each, Span, at_most_once, each_append, each_filter, each_more, each_passes, filter_flat, flat_flat, once}
 use Rattle.flow_parts.proofs.MergeLists.{span_append}
 use Rattle.flow_parts.proofs.MergeLists.{span_below, span_const, span_rises, span_weak, stands, times}
-use Rattle.flow_parts.proofs.Wholes.{filter_map, filters_meet, flat_map_map, map_append, parts_are}
+use Rattle.flow_parts.proofs.Wholes.{filters_meet, flat_map_map, map_append, parts_are}
 
 -- the place of a remark in the report but for its part, and in the program
 abbrev base : Program → PlacedRemark → ℕ

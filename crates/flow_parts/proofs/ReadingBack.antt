@@ -1,17 +1,13 @@
 -- The text of a part reads back as the part.
-use Rattle.std.proofs.Common.{◌≡◌, refl, lit<, lit≤, ℕ, zero, suc, ◌+◌, ◌-◌, ◌*◌, ◌/◌, ◌%◌, ◌^◌, ◌<◌, ◌≤◌, ◌==◌, ◌&&◌, Bool, true, false, not, cond}
-use Rattle.std.proofs.Common.{List, [], ◌∷◌, ◌++◌, Option, Some, None, Result, Ok, Err, map, flat_map, length, get_or, take, drop, codes, decimal}
-use Rattle.std.proofs.Common.{bytes_eq}
-use Rattle.std.proofs.Common.{sym, ap, ◌∙◌, subst, arith, append_assoc, append-nil, eq-eqb, if◌then◌else◌, nat_lt, nat_le, nat_eq, ◌⊎◌, inl, inr}
-use Rattle.std.proofs.Common.{option_and_then, option_map, unwrap_or, slice_get}
+use Rattle.std.proofs.Common.{◌≡◌, refl, lit<, ℕ, zero, suc, ◌+◌, ◌/◌, ◌%◌, ◌<◌, ◌==◌, Bool, true, false, not, cond}
+use Rattle.std.proofs.Common.{List, [], ◌∷◌, ◌++◌, length, take, drop, decimal}
+use Rattle.std.proofs.Common.{ap, ◌∙◌, arith, if◌then◌else◌}
 use Rattle.std.specs.Fmt.{digits, digits_onto, digit_glyph}
-use Rattle.std.specs.List.{after_first, before_first, ends_with, list_all, onto_first, position_or_len, slice_split, starts_with}
-use Rattle.std.specs.Str.Parse.{digits_value}
+use Rattle.std.specs.List.{after_first, before_first, list_all, onto_first, position_or_len, slice_split}
 use Rattle.std.proofs.Math.Nat.{mod-lt}
-use Rattle.std.proofs.lemmas.Bool.{and_parts, lt-ltb, le-leb, ne_eqb}
-use Rattle.tac_program.specs.Spelling.{is_digit}
+use Rattle.std.proofs.lemmas.Bool.{and_parts, lt-ltb, ne_eqb}
 use Rattle.part_texts.specs.Lines.{is_colon, is_line_feed, is_space}
-use Rattle.flow_parts.proofs.MergeLists.{Each, each_append, each_more}
+use Rattle.flow_parts.proofs.MergeLists.{Each, each_append}
 
 -- no byte of a text passes
 abbrev pub Clear : (ℕ → Bool) → List ℕ → Type 0

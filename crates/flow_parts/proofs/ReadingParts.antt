@@ -1,19 +1,18 @@
 -- The text of a part of a report reads back as the part.
-use Rattle.std.proofs.Common.{◌≡◌, refl, lit<, lit≤, ℕ, zero, suc, ◌+◌, ◌-◌, ◌*◌, ◌^◌, ◌<◌, ◌≤◌, ◌==◌, ◌&&◌, ◌||◌, Bool, true, false, not, cond, List}
+use Rattle.std.proofs.Common.{◌≡◌, refl, ℕ, zero, suc, ◌+◌, ◌-◌, ◌^◌, ◌<◌, ◌≤◌, ◌&&◌, ◌||◌, Bool, true, false, not, List}
 use Rattle.std.proofs.Common.{[], ◌∷◌, ◌++◌}
-use Rattle.std.proofs.Common.{Option, Some, None, Result, Ok, Err, map, flat_map, length, get_or, take, drop, codes, decimal, bytes_eq, reverse}
-use Rattle.std.proofs.Common.{filter}
-use Rattle.std.proofs.Common.{sym, ap, ◌∙◌, subst, arith, append_assoc, append-nil, eq-eqb, if◌then◌else◌, nat_lt, nat_le, nat_eq, ◌⊎◌, inl, inr}
-use Rattle.std.proofs.Common.{option_and_then, option_map, unwrap_or, slice_get}
+use Rattle.std.proofs.Common.{Option, Some, None, Result, Ok, Err, map, length, take, codes, decimal, bytes_eq, reverse}
+use Rattle.std.proofs.Common.{sym, ap, ◌∙◌, arith, append_assoc, if◌then◌else◌, nat_lt, nat_le, nat_eq}
+use Rattle.std.proofs.Common.{option_and_then, option_map}
 use Rattle.std.specs.List.{All, after_first, before_first, ends_with, list_all, slice_split, starts_with}
 use Rattle.std.specs.Str.Parse.{IsNumeral, digits_value}
-use Rattle.std.proofs.lemmas.Bool.{and_parts, lt-ltb, le-leb, ne_eqb, eqb-true}
+use Rattle.std.proofs.lemmas.Bool.{and_parts, lt-ltb, le-leb, ne_eqb}
 use Rattle.std.proofs.lemmas.Bool.Decides.{Decides-eqb}
 use Rattle.std.proofs.lemmas.Fmt.{decimal_is_IsNumeral}
 use Rattle.std.proofs.lemmas.List.{length-append, reverse-append}
 use Rattle.std.proofs.lemmas.Slice.Eq.{bytes_eq-Decides, ends_is, starts_is}
 use Rattle.flow_graph.specs.Points.{point_count}
-use Rattle.flow_graph.specs.Universes.{bits, definitions, expressions}
+use Rattle.flow_graph.specs.Universes.{definitions, expressions}
 use Rattle.flow_graph.specs.declared.analysis.Analysis.TheVariants.{Avail, Busy}
 use Rattle.flow_graph.specs.declared.expression.Expr.{Expr}
 use Rattle.flow_graph.specs.declared.expression.Expr.TheVariants.{Unary, Binary}
@@ -27,13 +26,13 @@ use Rattle.tac_program.specs.declared.program.Op.{Op}
 use Rattle.tac_program.specs.declared.program.Op.TheVariants as op
 use Rattle.tac_program.specs.declared.program.Operand.{Operand}
 use Rattle.tac_program.specs.declared.program.Operand.TheVariants.{Variable, Number}
-use Rattle.flow_reports.specs.Reports.{Knowledge, count_line, remark_line, remark_text}
+use Rattle.flow_reports.specs.Reports.{Knowledge, remark_text}
 use Rattle.flow_reports.specs.declared.listed.PlacedRemark.{PlacedRemark}
 use Rattle.flow_reports.specs.declared.remark.Remark.{Remark}
 use Rattle.flow_reports.specs.declared.remark.Remark.TheVariants.{NeverReached, Unset, Computed, VeryBusy, Dead}
 use Rattle.part_texts.specs.Lines.{Line, behind_space, is_colon, is_line_feed, is_space, read_line, read_number}
 use Rattle.part_texts.specs.Lines.{kind_of as kind_by_words}
-use Rattle.part_texts.specs.Parts.{Heading, Part, end_words, fault_behind, heading_from, heading_of, is_end, numbered, read_heading}
+use Rattle.part_texts.specs.Parts.{Heading, Part, end_words, fault_behind, heading_from, heading_of, is_end, read_heading}
 use Rattle.part_texts.specs.Shares.{most_parts}
 use Rattle.part_texts.specs.Parts.{read_lines, read_part, read_rows}
 use Rattle.part_texts.specs.Parts.{with_line, with_lines}
@@ -42,8 +41,7 @@ use Rattle.part_texts.specs.declared.fault.PartFault.TheVariants.{NoPart}
 use Rattle.part_texts.proofs.LineLists.{ends_there}
 use Rattle.flow_parts.specs.MergeLaws.{counts_of, line_in, read_as}
 use Rattle.flow_parts.specs.PartLaws.{kind_of}
-use Rattle.flow_parts.specs.Parts.{end_line, heading_line, part_lines, part_of, part_remarks}
-use Rattle.flow_parts.proofs.MergeLists.{Each}
+use Rattle.flow_parts.specs.Parts.{end_line, part_lines, part_of, part_remarks}
 use Rattle.flow_parts.proofs.ReadingBack.{Clear, after_there, before_there, clear_all, clear_append, decimal_clear, decimal_colons, decimal_lines}
 use Rattle.flow_parts.proofs.ReadingBack.{decimal_spaces}
 use Rattle.flow_parts.proofs.ReadingBack.{split_none, split_there}

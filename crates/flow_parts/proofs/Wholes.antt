@@ -1,19 +1,18 @@
 -- The remarks of all parts, point by point and kind by kind.
-use Rattle.std.proofs.Common.{◌≡◌, refl, lit<, ℕ, zero, suc, ◌+◌, ◌-◌, ◌<◌, ◌≤◌, ◌==◌, ◌&&◌, Bool, true, false, not, cond, if◌then◌else◌, List, []}
-use Rattle.std.proofs.Common.{◌∷◌, ◌++◌, Option, Some, None, length, filter, flat_map, map, sym, ap, ◌∙◌, subst, arith, append-nil, eq-eqb, nat_le}
-use Rattle.std.proofs.Common.{nat_lt, option_and_then, ◌⊎◌, inl, inr}
+use Rattle.std.proofs.Common.{◌≡◌, refl, lit<, ℕ, zero, suc, ◌+◌, ◌<◌, ◌==◌, ◌&&◌, Bool, true, false, not, cond, if◌then◌else◌, List, []}
+use Rattle.std.proofs.Common.{◌∷◌, ◌++◌, Option, Some, None, length, filter, flat_map, map, sym, ap, ◌∙◌, subst, arith, append-nil, eq-eqb}
+use Rattle.std.proofs.Common.{option_and_then}
 use Rattle.std.specs.List.{range_with_len}
-use Rattle.std.proofs.lemmas.Bool.{cases_lt, eqb-true, ne_eqb}
+use Rattle.std.proofs.lemmas.Bool.{eqb-true, ne_eqb}
 use Rattle.std.proofs.lemmas.List.Elements.{filter-append}
-use Rattle.std.proofs.lemmas.Grind.{flat_map-append}
-use Rattle.flow_graph.specs.Points.{kind_at, point_count, points}
+use Rattle.flow_graph.specs.Points.{kind_at, point_count}
 use Rattle.flow_graph.specs.Universes.{bits, evaluated_at}
 use Rattle.flow_graph.specs.declared.analysis.Analysis.TheVariants.{Avail, Busy}
 use Rattle.flow_graph.proofs.places.Standing.{stands}
 use Rattle.tac_program.specs.Programs.{Program}
 use Rattle.tac_program.specs.Sound.{IsSound}
 use Rattle.tac_program.specs.declared.program.StmtKind.{StmtKind}
-use Rattle.flow_reports.specs.Reports.{Knowledge, assigned, assigned_at, busy_at, computed_at, dead_at, remarks_at, remarks_when_reached, unset_at}
+use Rattle.flow_reports.specs.Reports.{Knowledge, assigned, busy_at, computed_at, dead_at, remarks_at, remarks_when_reached, unset_at}
 use Rattle.flow_reports.specs.Listed.{placed_at, remarks_of}
 use Rattle.flow_reports.specs.declared.listed.PlacedRemark.{PlacedRemark}
 use Rattle.flow_reports.specs.declared.remark.Remark.{Remark}
@@ -23,7 +22,6 @@ use Rattle.flow_reports.proofs.knowledge.RemarkLines.{assigned_there}
 use Rattle.part_texts.proofs.Rising.{Below, Rises}
 use Rattle.flow_parts.specs.Cuts.{is_in_cut, is_in_part}
 use Rattle.flow_parts.specs.PartLaws.{PartsAreTheReport, is_of, kind_of}
-use Rattle.flow_parts.specs.Parts.{part_remarks}
 use Rattle.flow_parts.proofs.Numbers.{below_range, rises_range, whole}
 
 -- lists that are told of others

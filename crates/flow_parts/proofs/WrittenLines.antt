@@ -1,10 +1,8 @@
 -- Lines of remarks that are in a part, point by point.
-use Rattle.std.proofs.Common.{◌≡◌, refl, ℕ, suc, zero, ◌+◌, Bool, true, false, List, [], ◌∷◌, ◌++◌, cond, if◌then◌else◌, filter, flat_map, map, sym}
-use Rattle.std.proofs.Common.{ap, ◌∙◌, append_assoc}
-use Rattle.std.specs.List.{range_with_len}
+use Rattle.std.proofs.Common.{◌≡◌, refl, ℕ, Bool, true, false, List, [], ◌∷◌, ◌++◌, cond, if◌then◌else◌, filter, flat_map, sym}
+use Rattle.std.proofs.Common.{ap, ◌∙◌}
 use Rattle.std.proofs.lemmas.List.Folds.{flat_map-map}
 use Rattle.std.proofs.lemmas.Grind.{flat_map-append}
-use Rattle.std.proofs.lemmas.List.Elements.{filter-append}
 use Rattle.flow_graph.specs.Points.{points}
 use Rattle.tac_program.specs.Programs.{Program}
 use Rattle.flow_reports.specs.Reports.{Knowledge, remark_line, remarks_at}

@@ -2,15 +2,16 @@
 
 ghost use Rattle.std.specs.Prelude.{◌≡◌, ◌≤◌, ◌++◌, IfOk, decimal};
 ghost use Rattle.flow_reports.specs.Reports.{count_line};
-ghost use Rattle.flow_reports.specs.code.Findings.{AreFindings, knowledge_of};
-ghost use Rattle.flow_reports.specs.code.Reported.{TellReport};
+ghost use Rattle.flow_reports.specs.code.Findings.{AreChosenFindings, knowledge_of};
+ghost use Rattle.flow_reports.specs.code.Reported.{TellChosen};
 ghost use Rattle.text_pieces.specs.Pieces.{CanWrite, Writes};
+ghost use Rattle.flow_parts.specs.code.Bits.{AreOfPart};
 ghost use Rattle.flow_parts.specs.Parts.{IsPart, end_line, heading_line, part_lines, part_remarks};
 
 use crate::OutOfMemory;
-use crate::part_lines::Share;
+use crate::part_lines::{Share, bits_of};
 use flow_graph::{Analysis, Graph};
-use flow_reports::{Findings, ReportAnswers};
+use flow_reports::{ChosenBits, Findings, ReportAnswers};
 use flow_texts::write_number;
 use std::alloc::Global;
 use std::marker::Model;
@@ -52,12 +53,12 @@ fn write_counts<K: Sink>(out: &mut Pieces<'_, K>, graph: &Graph<'_>)
 // Writes the lines of a part's remarks.
 fn write_lines<K: Sink>(out: &mut Pieces<'_, K>, found: &Findings<'_>, share: Share)
     requires ready { CanWrite K.Sink out.old }
-    requires found { AreFindings found.now }
+    requires found { AreChosenFindings found.now }
     ensures { Writes K.Sink out.old out.new
         (part_lines found.now.graph.now (part_remarks found.now.graph.now (knowledge_of found.now) share.count share.part)) }
 {
     for point in 0..found.graph.points() {
-        found.write_remarks(&share, out, point);
+        found.write_chosen_remarks(&share, out, point);
     }
 }
 
@@ -68,6 +69,18 @@ fn write_end<K: Sink>(out: &mut Pieces<'_, K>, share: Share)
 {
     write_numbered(out, b"end ", share.part);
     out.write(b"\n");
+}
+
+/// The bits that a part of the report on a graph's program asks: its share of the variables and of the expressions.
+///
+/// The conditions: the part is from 1 on and at most the count, and that at most 4,096.
+pub fn part_bits(graph: &Graph<'_>, count: u32, part: u32) -> ChosenBits
+    requires first { 1 ≤ part }
+    requires last { part ≤ count }
+    requires few { count ≤ 4096 }
+    ensures { AreOfPart graph.now count part result }
+{
+    bits_of(graph, Share { count, part })
 }
 
 /// A part of the report on a program: a line `part K of N of DIGEST`, the report's first line, the lines of its remarks, and a line `end K`.
@@ -83,21 +96,21 @@ pub struct PartText<'a> {
 
 impl<'a> Model for PartText<'a> {
     ghost use Rattle.std.specs.Prelude.{List, ℕ};
-    ghost use Rattle.flow_reports.specs.code.Findings.{AreFindings, knowledge_of};
+    ghost use Rattle.flow_reports.specs.code.Findings.{AreChosenFindings, knowledge_of};
     ghost use Rattle.flow_parts.specs.Parts.{part_of};
 
     ghost Value = { List ℕ };
 
     ghost view = { λ text. part_of text.digest.now text.found.graph.now (knowledge_of text.found) text.share.count text.share.part };
 
-    ghost invariant = { λ text. AreFindings text.found };
+    ghost invariant = { λ text. AreChosenFindings text.found };
 }
 
 impl<'a> PartText<'a> {
     /// A part of the report, ready to be written, of a program of this digest.
     ///
-    /// The conditions: the answers are to what a report on this graph's program asks; the part is from 1 on and at most the count, and that
-    /// at most 4,096. Fails only where memory runs out.
+    /// The conditions: the answers are to what a report on this graph's program asks of the bits of the part, as [`part_bits`] has them, and of
+    /// no others; the part is from 1 on and at most the count, and that at most 4,096. Fails only where memory runs out.
     pub fn of(
         alloc: Global,
         graph: &'a Graph<'a>,
@@ -106,13 +119,14 @@ impl<'a> PartText<'a> {
         count: u32,
         part: u32,
     ) -> Result<PartText<'a>, OutOfMemory>
-        requires answers { TellReport graph.now answers.now }
+        requires answers { TellChosen answers.now.chosen graph.now answers.now }
+        requires part { AreOfPart graph.now count part answers.now.chosen }
         requires first { 1 ≤ part }
         requires last { part ≤ count }
         requires few { count ≤ 4096 }
         ensures { IfOk result (IsPart graph.now digest.now count part) }
     {
-        let found = Findings::of(alloc, graph, answers)?;
+        let found = Findings::of_chosen(alloc, graph, answers)?;
         let share = Share { count, part };
         Ok(PartText {
             found,
@@ -148,7 +162,7 @@ pub fn part_here(
     requires few { count ≤ 4096 }
     ensures { IfOk result (λ text. IsPart graph.now digest.now count part text.items) }
 {
-    let answers = ReportAnswers::answered_here(alloc, graph)?;
+    let answers = ReportAnswers::chosen_here(alloc, graph, part_bits(graph, count, part))?;
     let text = PartText::of(alloc, graph, &answers, digest, count, part)?;
     whole_text(alloc, &text)
 }

@@ -103,6 +103,51 @@ fn parts_of_many_variables(rt: HostRuntime) -> Result<(), Fail> {
     Ok(())
 }
 
+// A program with a test on line 3, behind which each way evaluates 1,100 expressions, one on a line from line 5 on.
+fn many_expressions(alloc: Global) -> Result<String, Fail> {
+    let mut text = String::from_str(alloc, "proc main\n  read c\n  if c < 1 goto sums\nsums:\n")?;
+    for number in 0u32..1_100 {
+        let line = format!(in alloc; "  r = v{number} + 1\n")?;
+        text.push_str(&line)?;
+    }
+    text.push_str("end\n")?;
+    Ok(text)
+}
+
+// Where the parts of that program begin: the expressions are three groups, and the first remarks are those of line 3.
+fn check_beginnings<R: Abort>(rt: &R, one: &[u8], two: &[u8], three: &[u8]) {
+    let one_begins =
+        b"part 1 of 3 of 0a\npoints 1103, variables 1102, definitions 2203, expressions 1100\n\
+        3: v0 + 1 is very busy\n3: v1 + 1 is very busy\n";
+    let two_begins =
+        b"part 2 of 3 of 0a\npoints 1103, variables 1102, definitions 2203, expressions 1100\n\
+        3: v512 + 1 is very busy\n3: v513 + 1 is very busy\n";
+    let three_begins =
+        b"part 3 of 3 of 0a\npoints 1103, variables 1102, definitions 2203, expressions 1100\n\
+        3: v1024 + 1 is very busy\n3: v1025 + 1 is very busy\n";
+    assert!(rt; one.starts_with(one_begins));
+    assert!(rt; two.starts_with(two_begins));
+    assert!(rt; three.starts_with(three_begins));
+}
+
+#[test]
+fn parts_of_many_expressions(rt: HostRuntime) -> Result<(), Fail> {
+    let text = many_expressions(rt.alloc())?;
+    let one = part(rt.alloc(), text.as_bytes(), 3, 1)?;
+    let two = part(rt.alloc(), text.as_bytes(), 3, 2)?;
+    let three = part(rt.alloc(), text.as_bytes(), 3, 3)?;
+    check_beginnings(&rt, &one, &two, &three);
+    let all = merged(
+        rt.alloc(),
+        &[three.as_slice(), one.as_slice(), two.as_slice()],
+    )?;
+    assert_eq!(rt;
+        all.as_slice(),
+        report(rt.alloc(), text.as_bytes())?.as_slice()
+    );
+    Ok(())
+}
+
 // The digest that FIPS 180 gives.
 #[test]
 fn digest_of_letters(rt: HostRuntime) -> Result<(), Fail> {

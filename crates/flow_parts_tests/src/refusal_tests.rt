@@ -1,10 +1,11 @@
 // Each call on parts that takes memory, as `test_support` has it.
 
 ghost use Rattle.std.specs.Prelude.{◌≡◌, IfOk};
-ghost use Rattle.flow_reports.specs.code.Reported.{TellReport};
+ghost use Rattle.flow_parts.specs.code.Bits.{AreOfPart};
+ghost use Rattle.flow_reports.specs.code.Reported.{TellChosen};
 
 use flow_graph::Graph;
-use flow_parts::{PartText, digest, part_here};
+use flow_parts::{PartText, digest, part_bits, part_here};
 use flow_reports::ReportAnswers;
 use part_texts::merge;
 use std::alloc::Global;
@@ -30,7 +31,8 @@ fn part_of_answers<'x>(
     digest: &'x [u8],
     refused: &mut Refused,
 ) -> Result<Vec<u8>, Fail>
-    requires { TellReport graph.now answers.now }
+    requires answers { TellChosen answers.now.chosen graph.now answers.now }
+    requires part { AreOfPart graph.now 2 1 answers.now.chosen }
 {
     let text = again!(
         *refused,
@@ -46,7 +48,7 @@ fn text_of_a_part_is_refused(rt: HostRuntime) -> Result<(), Fail> {
     let alloc = rt.alloc();
     let program = read(alloc, remarks::TEXT.as_bytes())?;
     let graph = Graph::build(alloc, &program)?;
-    let answers = ReportAnswers::answered_here(alloc, &graph)?;
+    let answers = ReportAnswers::chosen_here(alloc, &graph, part_bits(&graph, 2, 1))?;
     let part = part_of_answers(alloc, &graph, &answers, b"0a", &mut refused)?;
     assert!(rt; part.ends_with(BEHIND_DIGEST));
     named(refused)

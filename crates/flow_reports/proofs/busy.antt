@@ -1,3 +1,4 @@
 pub mod Lists
 pub mod Rest
 pub mod Rounds
+pub mod Within

@@ -4,3 +4,4 @@ pub mod Findings
 pub mod Operands
 pub mod Reported
 pub mod Answered
+pub mod Chosen

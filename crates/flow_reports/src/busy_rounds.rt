@@ -1,15 +1,17 @@
 // Very busy expressions at tests, asked for in rounds of so many words: of a block of all words of all tests most would be empty.
 
-ghost use Rattle.std.specs.Prelude.{◌≡◌, ◌+◌, ◌-◌, ◌*◌, ◌^◌, ◌<◌, ◌≤◌, length, IfOk};
+ghost use Rattle.std.specs.Prelude.{◌≡◌, ℕ, true, ◌+◌, ◌-◌, ◌*◌, ◌^◌, ◌<◌, ◌≤◌, length, IfOk};
 ghost use Rattle.flow_graph.specs.Points.{point_count};
 ghost use Rattle.flow_graph.specs.Universes.{bits as bits_of};
 ghost use Rattle.flow_graph.specs.declared.analysis.Analysis.TheVariants.{Busy};
 ghost use Rattle.flow_queries.specs.Queries.{AreAnswers};
 ghost use Rattle.flow_reports.specs.code.Querying.{Queries};
+ghost use Rattle.flow_reports.specs.code.Chosen.{wants_word};
 ghost use Rattle.flow_reports.specs.code.Busy.{ArePoints, AreRounds, QueriesRound, round_start};
 
 use crate::OutOfMemory;
 use crate::busy_words::{BusyWords, Round};
+use crate::chosen_bits::{ChosenBits, WordRange};
 use bit_rows::words_for;
 use flow_graph::{Analysis, Graph};
 use flow_queries::{Answers, Query};
@@ -32,8 +34,12 @@ pub(crate) struct BusyRounds {
     pub(crate) busy: BusyWords,
     /// The first of them.
     pub(crate) until: u32,
+    /// The first word that is wanted, or as many as `until` where none is left.
+    pub(crate) first: u32,
     /// So many words of each set a round asks for at most.
     pub(crate) width: u32,
+    /// Which bits are asked.
+    pub(crate) chosen: ChosenBits,
 }
 
 // How many words of each set so many workers ask for in a round: whole groups of words.
@@ -50,6 +56,7 @@ fn round_width(tests: u32, workers: u32) -> u32
 // Asks for so many words from one on of the tests' sets.
 fn query_round(
     graph: &Graph<'_>,
+    _chosen: ChosenBits,
     queries: &mut Vec<Query>,
     tests: &[u32],
     from: u32,
@@ -59,7 +66,8 @@ fn query_round(
     requires some { 0 < width }
     requires few { length tests.now * width ≤ 2 ^ 25 }
     requires within { 64 * (from + width) < bits_of graph.now Busy + 64 }
-    ensures queries { IfOk result (λ _. Queries graph.now queries.old.items queries.new.items (length tests.now * width)) }
+    requires wanted { (word : ℕ) → from ≤ word → word < from + width → wants_word _chosen Busy word ≡ true }
+    ensures queries { IfOk result (λ _. Queries _chosen graph.now queries.old.items queries.new.items (length tests.now * width)) }
     ensures round { IfOk result (λ _. QueriesRound tests.now from width (length queries.old.items) queries.new.items) }
 {
     // Its contract tells that there are few expressions.
@@ -83,28 +91,33 @@ impl BusyRounds {
     pub(crate) fn of(
         alloc: Global,
         graph: &Graph<'_>,
+        chosen: ChosenBits,
         tests: Vec<u32>,
         workers: u32,
     ) -> Result<BusyRounds, OutOfMemory>
         requires points { ArePoints graph.now tests.items }
         requires few { length tests.items ≤ 2 ^ 20 }
         requires workers { workers ≤ 64 }
-        ensures { IfOk result (AreRounds graph.now tests.items) }
+        ensures { IfOk result (AreRounds chosen graph.now tests.items) }
     {
         let width = round_width(tests.len() as u32, workers);
         let busy = BusyWords::empty(alloc, tests.len())?;
-        let until = words_for(graph.bits(Analysis::Busy));
+        let words = words_for(graph.bits(Analysis::Busy));
+        let WordRange { first, end: until } = chosen.busy_words(words);
         Ok(BusyRounds {
             tests,
             busy,
             until,
+            first,
             width,
+            chosen,
         })
     }
 
     /// How many slices of a plan the rounds behind the next one have.
     pub(crate) fn slices_behind(&self, graph: &Graph<'_>, plan: SlicePlan) -> u32
-        requires { 0 < self.now.width }
+        requires some { 0 < self.now.width }
+        requires ordered { self.now.first ≤ self.now.until }
     {
         if self.tests.is_empty() {
             return 0;
@@ -114,20 +127,26 @@ impl BusyRounds {
         for round in 0..self.start() / self.width {
             let from = round.saturating_mul(self.width);
             let until = from.saturating_add(self.width);
-            slices = slices.saturating_add(plan.slices(bits, from, until));
+            if self.first < until {
+                let wanted = plan.slices(bits, from.max(self.first), until);
+                slices = slices.saturating_add(wanted);
+            }
         }
         slices
     }
 
     // The first word of the next round.
     fn start(&self) -> u32
-        requires { 0 < self.now.width }
-        ensures start { result ≡ round_start self.now.width self.now.until }
+        requires some { 0 < self.now.width }
+        requires ordered { self.now.first ≤ self.now.until }
+        ensures start { result ≡ round_start self.now.first self.now.width self.now.until }
+        ensures first { self.now.first ≤ result }
         ensures below { result ≤ self.now.until }
-        ensures less { 0 < self.now.until → result < self.now.until }
+        ensures less { self.now.first < self.now.until → result < self.now.until }
         ensures width { self.now.until - result ≤ self.now.width }
     {
-        self.until.saturating_sub(1) / self.width * self.width
+        let aligned = self.until.saturating_sub(1) / self.width * self.width;
+        self.first.max(aligned)
     }
 
     /// Puts the queries of the next round behind others.
@@ -136,10 +155,10 @@ impl BusyRounds {
         graph: &Graph<'_>,
         queries: &mut Vec<Query>,
     ) -> Result<(), OutOfMemory>
-        requires { AreRounds graph.now self.now.tests.items self.now }
-        ensures queries { IfOk result (λ _. Queries graph.now queries.old.items queries.new.items (2 ^ 25)) }
-        ensures round { IfOk result (λ _. QueriesRound self.now.tests.items (round_start self.now.width self.now.until)
-            (self.now.until - round_start self.now.width self.now.until) (length queries.old.items) queries.new.items) }
+        requires { AreRounds self.now.chosen graph.now self.now.tests.items self.now }
+        ensures queries { IfOk result (λ _. Queries self.now.chosen graph.now queries.old.items queries.new.items (2 ^ 25)) }
+        ensures round { IfOk result (λ _. QueriesRound self.now.tests.items (round_start self.now.first self.now.width self.now.until)
+            (self.now.until - round_start self.now.first self.now.width self.now.until) (length queries.old.items) queries.new.items) }
     {
         let from = self.start();
         if from == self.until {
@@ -147,6 +166,7 @@ impl BusyRounds {
         }
         query_round(
             graph,
+            self.chosen,
             queries,
             self.tests.as_slice(),
             from,
@@ -161,13 +181,14 @@ impl BusyRounds {
         answers: &Answers,
         before: u32,
     ) -> Result<(), OutOfMemory>
-        requires rounds { AreRounds graph.now self.old.tests.items self.old }
+        requires rounds { AreRounds self.old.chosen graph.now self.old.tests.items self.old }
         requires answers { AreAnswers graph.now answers.now }
         requires before { before ≤ 2 ^ 25 }
-        requires round { QueriesRound self.old.tests.items (round_start self.old.width self.old.until)
-            (self.old.until - round_start self.old.width self.old.until) before answers.now.queries }
-        ensures rounds { IfOk result (λ _. AreRounds graph.now self.old.tests.items self.new) }
-        ensures less { IfOk result (λ _. 0 < self.old.until → self.new.until < self.old.until) }
+        requires round { QueriesRound self.old.tests.items (round_start self.old.first self.old.width self.old.until)
+            (self.old.until - round_start self.old.first self.old.width self.old.until) before answers.now.queries }
+        ensures rounds { IfOk result (λ _. AreRounds self.old.chosen graph.now self.old.tests.items self.new) }
+        ensures first { IfOk result (λ _. self.new.first ≡ self.old.first) }
+        ensures less { IfOk result (λ _. self.old.first < self.old.until → self.new.until < self.old.until) }
     {
         let from = self.start();
         let round = Round {
@@ -176,7 +197,8 @@ impl BusyRounds {
             width: self.until - from,
         };
         let tests = self.tests.as_slice();
-        self.busy.put_round(graph, answers, tests, round)?;
+        self.busy
+            .put_round(graph, self.chosen, answers, tests, round)?;
         self.until = from;
         Ok(())
     }

@@ -1,13 +1,16 @@
 // The words with a bit of the tests' sets of very busy expressions.
 
-ghost use Rattle.std.specs.Prelude.{◌≡◌, ℕ, suc, ◌+◌, ◌*◌, ◌^◌, ◌<◌, ◌≤◌, Some, length, slice_get, slice_index, IfOk, MatchOption};
+ghost use Rattle.std.specs.Prelude.{◌≡◌, ℕ, suc, true, ◌+◌, ◌*◌, ◌^◌, ◌<◌, ◌≤◌, Some, length, slice_get, slice_index, IfOk, MatchOption};
 ghost use Rattle.flow_graph.specs.Universes.{bits};
 ghost use Rattle.flow_graph.specs.declared.analysis.Analysis.TheVariants.{Busy};
 ghost use Rattle.flow_queries.specs.Queries.{AreAnswers, IsWordAt};
 ghost use Rattle.flow_reports.specs.code.Busy.{AreBusy, QueriesRound, Keeps, TellBusy, busy_query, busy_lists};
+ghost use Rattle.flow_reports.specs.code.Chosen.{wants_word};
+ghost use Rattle.flow_reports.specs.declared.chosen_bits.ChosenBits.{ChosenBits as Choice};
 ghost use Rattle.tac_program.specs.Programs.{Program};
 
 use crate::OutOfMemory;
+use crate::chosen_bits::ChosenBits;
 use flow_graph::Graph;
 use flow_queries::{Answers, Query};
 use std::alloc::Global;
@@ -89,10 +92,10 @@ impl BusyWords {
     fn put(&mut self, test: u32, query: Query, mask: u64) -> Result<(), OutOfMemory>
         requires { test < length self.old.firsts.items }
         ensures keeps { IfOk result (λ _. Keeps (busy_lists self.old) (busy_lists self.new) test) }
-        ensures answered { IfOk result (λ _. (program : Program) (point word : ℕ) → query ≡ busy_query point word → IsWordAt program query mask
-            → 64 * word < bits program Busy
-            → AreBusy program self.old.words.items point (suc word) (slice_index self.old.firsts.items test)
-            → AreBusy program self.new.words.items point word (slice_index self.new.firsts.items test)) }
+        ensures answered { IfOk result (λ _. (chosen : Choice) (program : Program) (point word : ℕ) → query ≡ busy_query point word
+            → IsWordAt program query mask → 64 * word < bits program Busy → wants_word chosen Busy word ≡ true
+            → AreBusy chosen program self.old.words.items point (suc word) (slice_index self.old.firsts.items test)
+            → AreBusy chosen program self.new.words.items point word (slice_index self.new.firsts.items test)) }
     {
         if mask == 0 {
             return Ok(());
@@ -115,6 +118,7 @@ impl BusyWords {
     fn put_test(
         &mut self,
         graph: &Graph<'_>,
+        _chosen: ChosenBits,
         answers: &Answers,
         tests: &[u32],
         test: u32,
@@ -125,12 +129,13 @@ impl BusyWords {
         requires answers { AreAnswers graph.now answers.now }
         requires queries { QueriesRound tests.now round.from round.width round.before answers.now.queries }
         requires within { 64 * (round.from + round.width) < bits graph.now Busy + 64 }
+        requires wanted { (word : ℕ) → round.from ≤ word → word < round.from + round.width → wants_word _chosen Busy word ≡ true }
         requires few { round.before + length tests.now * round.width < 2 ^ 32 }
-        requires answered { AreBusy graph.now self.old.words.items (slice_index tests.now test) (round.from + round.width)
+        requires answered { AreBusy _chosen graph.now self.old.words.items (slice_index tests.now test) (round.from + round.width)
             (slice_index self.old.firsts.items test) }
         ensures keeps { IfOk result (λ _. Keeps (busy_lists self.old) (busy_lists self.new) test) }
         ensures answered { IfOk result
-            (λ _. AreBusy graph.now self.new.words.items (slice_index tests.now test) round.from (slice_index self.new.firsts.items test)) }
+            (λ _. AreBusy _chosen graph.now self.new.words.items (slice_index tests.now test) round.from (slice_index self.new.firsts.items test)) }
     {
         let first = round.before + test * round.width;
         for behind in 0..round.width {
@@ -144,6 +149,7 @@ impl BusyWords {
     pub(crate) fn put_round(
         &mut self,
         graph: &Graph<'_>,
+        chosen: ChosenBits,
         answers: &Answers,
         tests: &[u32],
         round: Round,
@@ -153,14 +159,15 @@ impl BusyWords {
         requires answers { AreAnswers graph.now answers.now }
         requires queries { QueriesRound tests.now round.from round.width round.before answers.now.queries }
         requires within { 64 * (round.from + round.width) < bits graph.now Busy + 64 }
+        requires wanted { (word : ℕ) → round.from ≤ word → word < round.from + round.width → wants_word chosen Busy word ≡ true }
         requires few { round.before + length tests.now * round.width < 2 ^ 32 }
-        requires answered { TellBusy graph.now tests.now (busy_lists self.old) (round.from + round.width) }
+        requires answered { TellBusy chosen graph.now tests.now (busy_lists self.old) (round.from + round.width) }
         ensures firsts { IfOk result (λ _. length self.new.firsts.items ≡ length tests.now) }
-        ensures answered { IfOk result (λ _. TellBusy graph.now tests.now (busy_lists self.new) round.from) }
+        ensures answered { IfOk result (λ _. TellBusy chosen graph.now tests.now (busy_lists self.new) round.from) }
     {
         self.words.reserve(with_bits(answers, round.before))?;
         for test in 0..tests.len() {
-            self.put_test(graph, answers, tests, test as u32, round)?;
+            self.put_test(graph, chosen, answers, tests, test as u32, round)?;
         }
         Ok(())
     }

@@ -8,7 +8,7 @@ ghost use Rattle.flow_graph.specs.declared.analysis.Analysis.TheVariants.{Live};
 ghost use Rattle.tac_program.specs.Sound.{IsSound};
 ghost use Rattle.flow_queries.specs.Queries.{flags_of};
 ghost use Rattle.flow_reports.specs.code.Findings.{TellDoubtful};
-ghost use Rattle.flow_reports.specs.code.Reported.{TellReport};
+ghost use Rattle.flow_reports.specs.code.Reported.{TellChosen};
 ghost use Rattle.flow_reports.specs.code.Answered.{facts_in};
 
 use crate::OutOfMemory;
@@ -42,7 +42,7 @@ pub(crate) fn doubtful_points(
     graph: &Graph<'_>,
     answers: &ReportAnswers,
 ) -> Result<Vec<bool>, OutOfMemory>
-    requires { TellReport graph.now answers.now }
+    requires { TellChosen answers.now.chosen graph.now answers.now }
     ensures points { IfOk result (λ doubtful. TellDoubtful graph.now doubtful.items) }
     ensures few { HasFewPoints Large graph.now }
     ensures sound { IsSound graph.now }

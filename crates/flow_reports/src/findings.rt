@@ -2,9 +2,10 @@
 
 ghost use Rattle.std.specs.Prelude.{◌≡◌, ℕ, ◌+◌, ◌*◌, ◌<◌, Some, slice_get, IfOk};
 ghost use Rattle.bit_rows.specs.Words.{has_bit};
-ghost use Rattle.flow_reports.specs.code.Findings.{AreFindings, TellDoubtful};
-ghost use Rattle.flow_reports.specs.code.Reported.{TellReport};
-ghost use Rattle.flow_reports.specs.code.Answered.{query_for, facts_in};
+ghost use Rattle.flow_reports.specs.code.Findings.{AreChosenFindings, AreFindings, TellDoubtful};
+ghost use Rattle.flow_reports.specs.code.Reported.{TellChosen, TellReport};
+ghost use Rattle.flow_reports.specs.code.Answered.{facts_in};
+ghost use Rattle.flow_reports.specs.code.Chosen.{wanted_query};
 
 use crate::OutOfMemory;
 use crate::doubt::doubtful_points;
@@ -53,6 +54,24 @@ impl<'a> Findings<'a> {
         ensures found { IfOk result AreFindings }
         ensures doubtful { IfOk result (λ found. TellDoubtful found.graph.now found.doubtful.items) }
     {
+        let found = Findings::of_chosen(alloc, graph, answers)?;
+        Ok(found)
+    }
+
+    /// What these answers tell of their program, as far as they were asked.
+    ///
+    /// The condition: they answer what a report on this graph's program asks of the bits that they name. Fails only where memory runs out.
+    pub fn of_chosen(
+        alloc: Global,
+        graph: &'a Graph<'a>,
+        answers: &'a ReportAnswers,
+    ) -> Result<Findings<'a>, OutOfMemory>
+        requires { TellChosen answers.now.chosen graph.now answers.now }
+        ensures program { IfOk result (λ found. found.graph.now ≡ graph.now) }
+        ensures answers { IfOk result (λ found. found.answers.now ≡ answers.now) }
+        ensures found { IfOk result AreChosenFindings }
+        ensures doubtful { IfOk result (λ found. TellDoubtful found.graph.now found.doubtful.items) }
+    {
         let doubtful = doubtful_points(alloc, graph, answers)?;
         let expressions = texts_of_bits(alloc, graph, Analysis::Avail)?;
         Ok(Findings {
@@ -65,10 +84,10 @@ impl<'a> Findings<'a> {
 }
 
 impl Findings<'_> {
-    // Whether the answer to the query of a number has the bit that it was asked for.
+    // Whether the answer to the query of a number has the bit that it was asked for; one that is not wanted it lacks.
     pub(crate) fn has(&self, number: u32, analysis: Analysis, point: u32, bit: u32) -> bool
-        requires found { AreFindings self.now }
-        requires queried { slice_get self.now.answers.now.replies.queries number ≡ Some (query_for analysis point bit) }
+        requires found { AreChosenFindings self.now }
+        requires queried { slice_get self.now.answers.now.replies.queries number ≡ Some (wanted_query self.now.answers.now.chosen analysis point bit) }
         ensures { result ≡ (facts_in self.now.answers.now.replies analysis).contains point bit }
     {
         // Only the number tells which answer it is; the others say what it answers.

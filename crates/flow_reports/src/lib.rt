@@ -3,6 +3,7 @@
 
 mod busy_rounds;
 mod busy_words;
+mod chosen_bits;
 mod doubt;
 mod findings;
 mod listed;
@@ -16,10 +17,11 @@ mod report_rounds;
 mod reports;
 mod unset;
 
+pub use chosen_bits::{ChosenBits, WordRange};
 pub use findings::Findings;
 pub use listed::{PlacedRemark, remarks_here};
 pub use remark::Remark;
-pub use remark_form::RemarkForm;
+pub use remark_form::{ChosenForm, RemarkForm};
 pub use remarks::{words_before_name, words_behind_name};
 pub use report_answers::ReportAnswers;
 pub use report_rounds::{FirstRound, LaterRounds};

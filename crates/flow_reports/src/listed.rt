@@ -8,7 +8,7 @@ ghost use Rattle.flow_graph.specs.Universes.{bits as bits_of};
 ghost use Rattle.flow_graph.specs.declared.analysis.Analysis.TheVariants.{Busy};
 ghost use Rattle.flow_reports.specs.Listed.{AreRemarks, placed_at, remarks_of};
 ghost use Rattle.flow_reports.specs.Reports.{busy_at, computed_at, dead_at, is_test as is_test_of, remarks_at, remarks_when_reached, unset_at};
-ghost use Rattle.flow_reports.specs.code.Findings.{AreFindings, knowledge_of};
+ghost use Rattle.flow_reports.specs.code.Findings.{AreChosenFindings, AreFindings, knowledge_of};
 ghost use Rattle.flow_reports.specs.declared.remark.Remark.TheVariants.{Computed, Dead, Unset, VeryBusy};
 
 use crate::OutOfMemory;
@@ -58,7 +58,7 @@ impl Findings<'_> {
         point: u32,
         kind: &StmtKind,
     ) -> Result<(), OutOfMemory>
-        requires found { AreFindings self.now }
+        requires found { AreChosenFindings self.now }
         requires point { point < point_count self.now.graph.now }
         requires kind { kind_at self.now.graph.now point ≡ Some kind.now }
         ensures { OnOk result (remarks.new.items
@@ -87,7 +87,7 @@ impl Findings<'_> {
         point: u32,
         kind: &StmtKind,
     ) -> Result<(), OutOfMemory>
-        requires found { AreFindings self.now }
+        requires found { AreChosenFindings self.now }
         requires point { point < point_count self.now.graph.now }
         requires kind { kind_at self.now.graph.now point ≡ Some kind.now }
         ensures { OnOk result (remarks.new.items
@@ -139,7 +139,7 @@ impl Findings<'_> {
         point: u32,
         kind: &StmtKind,
     ) -> Result<(), OutOfMemory>
-        requires found { AreFindings self.now }
+        requires found { AreChosenFindings self.now }
         requires point { point < point_count self.now.graph.now }
         requires kind { kind_at self.now.graph.now point ≡ Some kind.now }
         requires test { is_test_of kind.now ≡ true }
@@ -165,7 +165,7 @@ impl Findings<'_> {
         point: u32,
         kind: &StmtKind,
     ) -> Result<(), OutOfMemory>
-        requires found { AreFindings self.now }
+        requires found { AreChosenFindings self.now }
         requires point { point < point_count self.now.graph.now }
         requires kind { kind_at self.now.graph.now point ≡ Some kind.now }
         ensures { OnOk result (remarks.new.items
@@ -184,7 +184,7 @@ impl Findings<'_> {
         point: u32,
         kind: &StmtKind,
     ) -> Result<(), OutOfMemory>
-        requires found { AreFindings self.now }
+        requires found { AreChosenFindings self.now }
         requires point { point < point_count self.now.graph.now }
         requires kind { kind_at self.now.graph.now point ≡ Some kind.now }
         ensures { OnOk result (remarks.new.items
@@ -193,7 +193,7 @@ impl Findings<'_> {
         match assigned_variable(kind) {
             None => Ok(()),
             Some(variable) => {
-                let dead = self.sets_dead(point, kind);
+                let dead = self.finds_dead(point, kind);
                 put_if(remarks, dead, point, Remark::Dead { variable })
             }
         }
@@ -206,7 +206,7 @@ impl Findings<'_> {
         point: u32,
         kind: &StmtKind,
     ) -> Result<(), OutOfMemory>
-        requires found { AreFindings self.now }
+        requires found { AreChosenFindings self.now }
         requires point { point < point_count self.now.graph.now }
         requires kind { kind_at self.now.graph.now point ≡ Some kind.now }
         ensures { OnOk result (remarks.new.items
@@ -220,7 +220,7 @@ impl Findings<'_> {
 
     // Puts the remarks of a point: none at a procedure's end, and of a statement that is never reached that alone.
     fn put_remarks(&self, remarks: &mut Vec<PlacedRemark>, point: u32) -> Result<(), OutOfMemory>
-        requires found { AreFindings self.now }
+        requires found { AreChosenFindings self.now }
         requires point { point < point_count self.now.graph.now }
         ensures { OnOk result
             (remarks.new.items ≡ remarks.old.items ++ placed_at point (remarks_at self.now.graph.now (knowledge_of self.now) point)) }
@@ -228,7 +228,7 @@ impl Findings<'_> {
         let Some(stmt) = self.graph.stmt(point) else {
             return Ok(());
         };
-        if self.is_reached(point) {
+        if self.reaches(point) {
             return self.put_when_reached(remarks, point, &stmt.kind);
         }
         put_if(remarks, true, point, Remark::NeverReached)

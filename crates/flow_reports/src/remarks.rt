@@ -6,20 +6,20 @@ ghost use Rattle.bit_rows.specs.Words.{has_bit};
 ghost use Rattle.flow_graph.specs.Points.{kind_at, point_count};
 ghost use Rattle.flow_graph.specs.Universes.{bits as bits_of, evaluated_at};
 ghost use Rattle.flow_graph.specs.declared.analysis.Analysis.TheVariants.{Busy, Reach};
-ghost use Rattle.flow_reports.specs.code.Findings.{AreFindings, IsRemarkIn, knowledge_of, remark_name, words_before, words_behind};
+ghost use Rattle.flow_reports.specs.code.Findings.{AreChosenFindings, AreFindings, IsRemarkIn, knowledge_of, remark_name, words_before, words_behind};
 ghost use Rattle.flow_texts.specs.code.Members.{texts_where};
 ghost use Rattle.text_pieces.specs.code.Lists.{some_stand};
 ghost use Rattle.text_pieces.specs.Pieces.{CanWrite, Writes};
 ghost use Rattle.flow_reports.specs.Reports.{assigned as assigned_by, busy_at, computed_at, dead_at, is_test as is_test_of, remarks_at};
 ghost use Rattle.flow_reports.specs.Reports.{remarks_when_reached, unset_at};
-ghost use Rattle.flow_reports.specs.code.Answered.{query_for};
+ghost use Rattle.flow_reports.specs.code.Chosen.{wanted_query};
 ghost use Rattle.flow_reports.specs.declared.remark.Remark.TheVariants.{Computed, Dead, Unset, VeryBusy};
 
 use crate::busy_words::WordOnes;
 use crate::findings::Findings;
 use crate::operands::{VariablesRead, assigned_variable, is_test, variables_read};
 use crate::remark::Remark;
-use crate::remark_form::RemarkForm;
+use crate::remark_form::{ChosenForm, RemarkForm, WholeForm};
 use flow_graph::Analysis;
 use flow_texts::next_one;
 use tac_program::StmtKind;
@@ -60,6 +60,15 @@ impl Findings<'_> {
         requires remark { IsRemarkIn self.now.graph.now remark }
         ensures { result.now ≡ remark_name self.now.graph.now remark }
     {
+        self.chosen_name(remark)
+    }
+
+    /// The same of findings that may be of chosen bits alone.
+    pub fn chosen_name(&self, remark: Remark) -> &[u8]
+        requires found { AreChosenFindings self.now }
+        requires remark { IsRemarkIn self.now.graph.now remark }
+        ensures { result.now ≡ remark_name self.now.graph.now remark }
+    {
         match remark {
             Remark::NeverReached => b"",
             Remark::Unset { variable } => self.graph.program().variable(variable),
@@ -77,13 +86,22 @@ impl Findings<'_> {
         requires point { point < point_count self.now.graph.now }
         ensures { result ≡ (knowledge_of self.now).reach.has_path point }
     {
+        self.reaches(point)
+    }
+
+    /// The same of findings that may be of chosen bits alone.
+    pub(crate) fn reaches(&self, point: u32) -> bool
+        requires found { AreChosenFindings self.now }
+        requires point { point < point_count self.now.graph.now }
+        ensures { result ≡ (knowledge_of self.now).reach.has_path point }
+    {
         self.answers.has_path(Analysis::Reach, point)
     }
 
     // Whether a variable may not be set at a point, by the query of a number.
     fn may_be_unset(&self, number: u32, point: u32, variable: u32) -> bool
-        requires found { AreFindings self.now }
-        requires queried { slice_get self.now.answers.now.replies.queries number ≡ Some (query_for Reach point variable) }
+        requires found { AreChosenFindings self.now }
+        requires queried { slice_get self.now.answers.now.replies.queries number ≡ Some (wanted_query self.now.answers.now.chosen Reach point variable) }
         ensures { result ≡ (knowledge_of self.now).reach.contains point variable }
     {
         self.has(number, Analysis::Reach, point, variable)
@@ -94,6 +112,16 @@ impl Findings<'_> {
     /// The conditions: what was found is of one program, and the statement stands at that point.
     pub fn reads_unset(&self, point: u32, kind: &StmtKind) -> bool
         requires found { AreFindings self.now }
+        requires point { point < point_count self.now.graph.now }
+        requires kind { kind_at self.now.graph.now point ≡ Some kind.now }
+        ensures { result ≡ some_stand (unset_at self.now.graph.now (knowledge_of self.now) point) }
+    {
+        self.finds_unset(point, kind)
+    }
+
+    // The same of findings that may be of chosen bits alone.
+    fn finds_unset(&self, point: u32, kind: &StmtKind) -> bool
+        requires found { AreChosenFindings self.now }
         requires point { point < point_count self.now.graph.now }
         requires kind { kind_at self.now.graph.now point ≡ Some kind.now }
         ensures { result ≡ some_stand (unset_at self.now.graph.now (knowledge_of self.now) point) }
@@ -110,7 +138,7 @@ impl Findings<'_> {
     }
 
     // Writes that a variable that the statement reads may not be set, where that is so, by the query of a number.
-    fn write_unset_variable<F: RemarkForm, K: Sink>(
+    fn write_unset_variable<F: ChosenForm, K: Sink>(
         &self,
         form: &F,
         out: &mut Pieces<'_, K>,
@@ -119,8 +147,9 @@ impl Findings<'_> {
         variable: u32,
     )
         requires ready { CanWrite K.Sink out.old }
-        requires found { AreFindings self.now }
-        requires queried { slice_get self.now.answers.now.replies.queries number ≡ Some (query_for Reach point variable) }
+        requires fits { F.is_for form.now self.now }
+        requires found { AreChosenFindings self.now }
+        requires queried { slice_get self.now.answers.now.replies.queries number ≡ Some (wanted_query self.now.answers.now.chosen Reach point variable) }
         requires point { point < point_count self.now.graph.now }
         requires variable { variable < length self.now.graph.now.variable_names }
         ensures { Writes K.Sink out.old out.new
@@ -133,7 +162,7 @@ impl Findings<'_> {
     }
 
     // Writes which variables that the statement reads may not be set.
-    fn write_unset<F: RemarkForm, K: Sink>(
+    fn write_unset<F: ChosenForm, K: Sink>(
         &self,
         form: &F,
         out: &mut Pieces<'_, K>,
@@ -141,7 +170,8 @@ impl Findings<'_> {
         kind: &StmtKind,
     )
         requires ready { CanWrite K.Sink out.old }
-        requires found { AreFindings self.now }
+        requires fits { F.is_for form.now self.now }
+        requires found { AreChosenFindings self.now }
         requires point { point < point_count self.now.graph.now }
         requires kind { kind_at self.now.graph.now point ≡ Some kind.now }
         ensures { Writes K.Sink out.old out.new
@@ -162,7 +192,7 @@ impl Findings<'_> {
 
     // Whether the expression that the statement at a point evaluates is available there.
     fn is_computed(&self, point: u32, kind: &StmtKind, bit: u32) -> bool
-        requires found { AreFindings self.now }
+        requires found { AreChosenFindings self.now }
         requires point { point < point_count self.now.graph.now }
         requires kind { kind_at self.now.graph.now point ≡ Some kind.now }
         requires bit { evaluated_at self.now.graph.now point ≡ Some bit }
@@ -174,7 +204,7 @@ impl Findings<'_> {
     }
 
     // Writes that the expression that the statement evaluates is computed already, where that is so.
-    fn write_computed<F: RemarkForm, K: Sink>(
+    fn write_computed<F: ChosenForm, K: Sink>(
         &self,
         form: &F,
         out: &mut Pieces<'_, K>,
@@ -182,7 +212,8 @@ impl Findings<'_> {
         kind: &StmtKind,
     )
         requires ready { CanWrite K.Sink out.old }
-        requires found { AreFindings self.now }
+        requires fits { F.is_for form.now self.now }
+        requires found { AreChosenFindings self.now }
         requires point { point < point_count self.now.graph.now }
         requires kind { kind_at self.now.graph.now point ≡ Some kind.now }
         ensures { Writes K.Sink out.old out.new
@@ -198,7 +229,7 @@ impl Findings<'_> {
     }
 
     // Writes which expressions of a word are very busy: those of its ones that stand for the expressions of its range.
-    fn write_busy_word<F: RemarkForm, K: Sink>(
+    fn write_busy_word<F: ChosenForm, K: Sink>(
         &self,
         form: &F,
         out: &mut Pieces<'_, K>,
@@ -206,7 +237,8 @@ impl Findings<'_> {
         word: WordOnes,
     )
         requires ready { CanWrite K.Sink out.old }
-        requires found { AreFindings self.now }
+        requires fits { F.is_for form.now self.now }
+        requires found { AreChosenFindings self.now }
         requires point { point < point_count self.now.graph.now }
         requires word { (k : ℕ) → k < 64 → has_bit word.ones k ≡ (knowledge_of self.now).busy.contains point (word.first + k) }
         requires ordered { word.first ≤ word.end }
@@ -227,7 +259,7 @@ impl Findings<'_> {
     }
 
     // Writes which expressions are very busy at a test, word by word of those that have a bit.
-    fn write_busy_words<F: RemarkForm, K: Sink>(
+    fn write_busy_words<F: ChosenForm, K: Sink>(
         &self,
         form: &F,
         out: &mut Pieces<'_, K>,
@@ -235,7 +267,8 @@ impl Findings<'_> {
         kind: &StmtKind,
     )
         requires ready { CanWrite K.Sink out.old }
-        requires found { AreFindings self.now }
+        requires fits { F.is_for form.now self.now }
+        requires found { AreChosenFindings self.now }
         requires point { point < point_count self.now.graph.now }
         requires kind { kind_at self.now.graph.now point ≡ Some kind.now }
         requires test { is_test_of kind.now ≡ true }
@@ -256,7 +289,7 @@ impl Findings<'_> {
 
     // Whether it is told which expressions are very busy: at a test that is not doubtful.
     pub(crate) fn tells_busy(&self, point: u32, kind: &StmtKind) -> bool
-        requires found { AreFindings self.now }
+        requires found { AreChosenFindings self.now }
         requires point { point < point_count self.now.graph.now }
         ensures { result ≡ (is_test_of kind.now && not ((knowledge_of self.now).doubtful point)) }
     {
@@ -264,7 +297,7 @@ impl Findings<'_> {
     }
 
     // Writes which expressions are very busy at a test that is not doubtful.
-    fn write_busy<F: RemarkForm, K: Sink>(
+    fn write_busy<F: ChosenForm, K: Sink>(
         &self,
         form: &F,
         out: &mut Pieces<'_, K>,
@@ -272,7 +305,8 @@ impl Findings<'_> {
         kind: &StmtKind,
     )
         requires ready { CanWrite K.Sink out.old }
-        requires found { AreFindings self.now }
+        requires fits { F.is_for form.now self.now }
+        requires found { AreChosenFindings self.now }
         requires point { point < point_count self.now.graph.now }
         requires kind { kind_at self.now.graph.now point ≡ Some kind.now }
         ensures { Writes K.Sink out.old out.new
@@ -286,7 +320,7 @@ impl Findings<'_> {
 
     // Whether a variable is dead behind the statement that assigns it: the point after it is not doubtful, and the variable not live there.
     fn is_dead_after(&self, point: u32, kind: &StmtKind, variable: u32) -> bool
-        requires found { AreFindings self.now }
+        requires found { AreChosenFindings self.now }
         requires point { point < point_count self.now.graph.now }
         requires next { point + 1 < point_count self.now.graph.now }
         requires kind { kind_at self.now.graph.now point ≡ Some kind.now }
@@ -308,6 +342,16 @@ impl Findings<'_> {
         requires kind { kind_at self.now.graph.now point ≡ Some kind.now }
         ensures { result ≡ some_stand (dead_at self.now.graph.now (knowledge_of self.now) point) }
     {
+        self.finds_dead(point, kind)
+    }
+
+    /// The same of findings that may be of chosen bits alone.
+    pub(crate) fn finds_dead(&self, point: u32, kind: &StmtKind) -> bool
+        requires found { AreChosenFindings self.now }
+        requires point { point < point_count self.now.graph.now }
+        requires kind { kind_at self.now.graph.now point ≡ Some kind.now }
+        ensures { result ≡ some_stand (dead_at self.now.graph.now (knowledge_of self.now) point) }
+    {
         match assigned_variable(kind) {
             Some(variable) => self.is_dead_after(point, kind, variable),
             None => false,
@@ -315,7 +359,7 @@ impl Findings<'_> {
     }
 
     // Writes that an assignment is dead, where that is so.
-    fn write_dead<F: RemarkForm, K: Sink>(
+    fn write_dead<F: ChosenForm, K: Sink>(
         &self,
         form: &F,
         out: &mut Pieces<'_, K>,
@@ -323,7 +367,8 @@ impl Findings<'_> {
         kind: &StmtKind,
     )
         requires ready { CanWrite K.Sink out.old }
-        requires found { AreFindings self.now }
+        requires fits { F.is_for form.now self.now }
+        requires found { AreChosenFindings self.now }
         requires point { point < point_count self.now.graph.now }
         requires kind { kind_at self.now.graph.now point ≡ Some kind.now }
         ensures { Writes K.Sink out.old out.new
@@ -339,7 +384,7 @@ impl Findings<'_> {
     }
 
     // Writes all remarks on a statement that is reached.
-    fn write_when_reached<F: RemarkForm, K: Sink>(
+    fn write_when_reached<F: ChosenForm, K: Sink>(
         &self,
         form: &F,
         out: &mut Pieces<'_, K>,
@@ -347,7 +392,8 @@ impl Findings<'_> {
         kind: &StmtKind,
     )
         requires ready { CanWrite K.Sink out.old }
-        requires found { AreFindings self.now }
+        requires fits { F.is_for form.now self.now }
+        requires found { AreChosenFindings self.now }
         requires point { point < point_count self.now.graph.now }
         requires kind { kind_at self.now.graph.now point ≡ Some kind.now }
         ensures { Writes K.Sink out.old out.new
@@ -375,13 +421,32 @@ impl Findings<'_> {
         ensures { Writes K.Sink out.old out.new
             (flat_map (F.text form.now self.now.graph.now point) (remarks_at self.now.graph.now (knowledge_of self.now) point)) }
     {
+        self.write_chosen_remarks(&WholeForm { form }, out, point);
+    }
+
+    /// The same of findings that may be of chosen bits alone. What they say of other bits need not be so: a form leaves such remarks out.
+    ///
+    /// The conditions: what was found is such as the form is for, of one program, which has the point.
+    pub fn write_chosen_remarks<F: ChosenForm, K: Sink>(
+        &self,
+        form: &F,
+        out: &mut Pieces<'_, K>,
+        point: u32,
+    )
+        requires ready { CanWrite K.Sink out.old }
+        requires fits { F.is_for form.now self.now }
+        requires found { AreChosenFindings self.now }
+        requires point { point < point_count self.now.graph.now }
+        ensures { Writes K.Sink out.old out.new
+            (flat_map (F.text form.now self.now.graph.now point) (remarks_at self.now.graph.now (knowledge_of self.now) point)) }
+    {
         if out.has_failed() {
             return;
         }
         let Some(stmt) = self.graph.stmt(point) else {
             return;
         };
-        if self.is_reached(point) {
+        if self.reaches(point) {
             self.write_when_reached(form, out, point, &stmt.kind);
             return;
         }

@@ -3,12 +3,13 @@
 ghost use Rattle.std.specs.Prelude.{◌≡◌, ℕ, suc, ◌<◌, ◌≤◌, Some, length, slice_get, slice_index, IfOk, MatchOption};
 ghost use Rattle.flow_queries.specs.Queries.{flags_of};
 ghost use Rattle.slice_board.specs.Ranges.{AreInRange};
-ghost use Rattle.flow_reports.specs.code.Reported.{IsFirstRound, TellReport, reported_of};
+ghost use Rattle.flow_reports.specs.code.Reported.{IsFirstRoundOf, TellChosen, TellReport, reported_of};
 ghost use Rattle.flow_reports.specs.code.Answered.{facts_in};
 
 use crate::OutOfMemory;
 use crate::busy_rounds::BusyRounds;
 use crate::busy_words::{BusyWord, BusyWords};
+use crate::chosen_bits::ChosenBits;
 use crate::report_queries::PointQueries;
 use crate::report_rounds::{FirstRound, LaterRounds};
 use flow_graph::{Analysis, Graph};
@@ -33,6 +34,7 @@ fn width_for<R, G>(team: &Team<'_, R, G>) -> u32
 /// the variables that it reads are among them; of available expressions the one that it evaluates; of live variables, behind an
 /// assignment, the one that it assigns; of very busy expressions, at a test, all.
 pub struct ReportAnswers {
+    chosen: ChosenBits,
     answers: Answers,
     places: Vec<PointQueries>,
     tests: Vec<u32>,
@@ -46,7 +48,7 @@ impl Model for ReportAnswers {
 
     ghost Value = { Reported };
 
-    ghost view = { λ r. record { replies = r.answers; places = r.places.items; tests = r.tests.items; busy = busy_lists r.busy } };
+    ghost view = { λ r. record { chosen = r.chosen; replies = r.answers; places = r.places.items; tests = r.tests.items; busy = busy_lists r.busy } };
 
     ghost invariant = { λ r. length r.answers.words ≡ length r.answers.queries };
 }
@@ -55,6 +57,7 @@ impl Drop for ReportAnswers {
     // By hand: who gives it up then makes one call.
     fn drop(self) {
         let ReportAnswers {
+            chosen: _,
             answers: _,
             places: _,
             tests: _,
@@ -78,9 +81,12 @@ impl ReportAnswers {
             tests,
             busy,
             until: _,
+            first: _,
             width: _,
+            chosen,
         } = rounds;
         ReportAnswers {
+            chosen,
             answers,
             places,
             tests,
@@ -96,18 +102,18 @@ impl ReportAnswers {
         queries: Vec<Query>,
         first: FirstRound,
     ) -> Result<ReportAnswers, OutOfMemory>
-        requires { IsFirstRound graph.now queries.items first }
-        ensures { IfOk result (TellReport graph.now) }
+        requires { IsFirstRoundOf first.rounds.chosen graph.now queries.items first }
+        ensures { IfOk result (TellChosen first.rounds.chosen graph.now) }
     {
         let solvers = GraphSolvers::of(team, alloc, graph)?;
         let (answers, mut solvers) = solvers.answer(team, alloc, queries)?;
-        let mut rounds = first.put(alloc, graph, answers)?;
-        while let Some(queries) = rounds.next(alloc, graph)? {
+        let mut rounds = first.put_chosen(alloc, graph, answers)?;
+        while let Some(queries) = rounds.next_chosen(alloc, graph)? {
             let (answers, left) = solvers.answer(team, alloc, queries)?;
             solvers = left;
-            rounds.put(graph, &answers)?;
+            rounds.put_round(graph, &answers)?;
         }
-        Ok(rounds.done(graph))
+        Ok(rounds.done_chosen(graph))
     }
 
     /// What a report asks of a graph, answered by a team, in slices of its width; by one worker they are 4,096 bits wide. Of very busy
@@ -120,8 +126,20 @@ impl ReportAnswers {
     ) -> Result<ReportAnswers, OutOfMemory>
         ensures { IfOk result (TellReport graph.now) }
     {
+        ReportAnswers::of_chosen(team, alloc, graph, ChosenBits::All)
+    }
+
+    /// What a report asks of a graph, as far as it is wanted, answered by a team as [`of`](ReportAnswers::of) has it. No other bits are asked.
+    pub fn of_chosen<R: Threads + Sync, G: Gate>(
+        team: &Team<'_, R, G>,
+        alloc: Global,
+        graph: &Graph<'_>,
+        chosen: ChosenBits,
+    ) -> Result<ReportAnswers, OutOfMemory>
+        ensures { IfOk result (TellChosen chosen graph.now) }
+    {
         let cut = width_for(team);
-        let (queries, first) = FirstRound::of(alloc, graph, team.workers)?;
+        let (queries, first) = FirstRound::of_chosen(alloc, graph, chosen, team.workers)?;
         let plan = SlicePlan::of(graph.points(), cut);
         let gate = JoinedGate::new(team.gate, first.slices_behind(graph, plan));
         let joined = Team {
@@ -139,16 +157,27 @@ impl ReportAnswers {
     pub fn answered_here(alloc: Global, graph: &Graph<'_>) -> Result<ReportAnswers, OutOfMemory>
         ensures { IfOk result (TellReport graph.now) }
     {
-        let (queries, first) = FirstRound::of(alloc, graph, 1)?;
+        ReportAnswers::chosen_here(alloc, graph, ChosenBits::All)
+    }
+
+    /// What a report asks of a graph, as far as it is wanted, answered on the calling thread. No other bits are asked.
+    pub fn chosen_here(
+        alloc: Global,
+        graph: &Graph<'_>,
+        chosen: ChosenBits,
+    ) -> Result<ReportAnswers, OutOfMemory>
+        ensures { IfOk result (TellChosen chosen graph.now) }
+    {
+        let (queries, first) = FirstRound::of_chosen(alloc, graph, chosen, 1)?;
         let solvers = GraphSolvers::of_here(alloc, graph)?;
         let (answers, mut solvers) = solvers.answer_here(alloc, queries)?;
-        let mut rounds = first.put(alloc, graph, answers)?;
-        while let Some(queries) = rounds.next(alloc, graph)? {
+        let mut rounds = first.put_chosen(alloc, graph, answers)?;
+        while let Some(queries) = rounds.next_chosen(alloc, graph)? {
             let (answers, left) = solvers.answer_here(alloc, queries)?;
             solvers = left;
-            rounds.put(graph, &answers)?;
+            rounds.put_round(graph, &answers)?;
         }
-        Ok(rounds.done(graph))
+        Ok(rounds.done_chosen(graph))
     }
 
     /// Where the queries of a point stand.

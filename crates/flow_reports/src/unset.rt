@@ -4,7 +4,7 @@ ghost use Rattle.std.specs.Prelude.{◌≡◌, ◌∷◌, ◌++◌, ◌+◌, ◌
 ghost use Rattle.flow_graph.specs.Points.{kind_at, point_count};
 ghost use Rattle.flow_reports.specs.Reports.{unset_at};
 ghost use Rattle.flow_reports.specs.Uses.{unset_uses, unset_uses_at, uses_of};
-ghost use Rattle.flow_reports.specs.code.Findings.{AreFindings, knowledge_of};
+ghost use Rattle.flow_reports.specs.code.Findings.{AreChosenFindings, AreFindings, knowledge_of};
 
 use crate::OutOfMemory;
 use crate::findings::Findings;
@@ -44,7 +44,7 @@ impl Findings<'_> {
         point: u32,
         kind: &StmtKind,
     ) -> Result<(), OutOfMemory>
-        requires found { AreFindings self.now }
+        requires found { AreChosenFindings self.now }
         requires point { point < point_count self.now.graph.now }
         requires kind { kind_at self.now.graph.now point ≡ Some kind.now }
         ensures put { OnOk result (uses.new.items ≡ uses.old.items ++ uses_of point (unset_at self.now.graph.now (knowledge_of self.now) point)) }
@@ -68,7 +68,7 @@ impl Findings<'_> {
 
     // Puts the uses at a point: none at a procedure's end, and none where no valid path leads.
     fn put_uses_at(&self, uses: &mut Vec<UnsetUse>, point: u32) -> Result<(), OutOfMemory>
-        requires found { AreFindings self.now }
+        requires found { AreChosenFindings self.now }
         requires point { point < point_count self.now.graph.now }
         ensures put { OnOk result (uses.new.items ≡ uses.old.items ++ unset_uses_at self.now.graph.now (knowledge_of self.now) point) }
         ensures few { OnOk result (length uses.new.items ≤ length uses.old.items + 2) }
@@ -76,7 +76,7 @@ impl Findings<'_> {
         let Some(stmt) = self.graph.stmt(point) else {
             return Ok(());
         };
-        if self.is_reached(point) {
+        if self.reaches(point) {
             return self.put_uses(uses, point, &stmt.kind);
         }
         Ok(())

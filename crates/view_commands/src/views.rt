@@ -19,7 +19,7 @@ ghost use Rattle.view_commands.specs.Views.{LacksRemark, ShowsProcedure, digest_
 use crate::options::{Format, Options};
 use crate::progress::Progress;
 use flow_graph::Graph;
-use flow_parts::{PartText, digest};
+use flow_parts::{PartText, digest, part_bits};
 use flow_paths::{JsonPathsText, PathDotText};
 use flow_reports::ReportAnswers;
 use flow_runs::{Fault, OutOfMemory, Output, graph_of, push_report, push_text};
@@ -211,7 +211,8 @@ fn push_part<R: Threads + Sync, K: Sink>(
     ensures fault { IfErr result (OfProgram (λ _. ⊥) ⊥ ⊥) }
     ensures faults { K.faults sink.new ≡ K.faults sink.old + write_faults_in result }
 {
-    let answers = ReportAnswers::of(team, alloc, graph)?;
+    let chosen = part_bits(graph, share.count, share.part);
+    let answers = ReportAnswers::of_chosen(team, alloc, graph, chosen)?;
     let text = PartText::of(alloc, graph, &answers, digest, share.count, share.part)?;
     push_text(alloc, &text, sink)
 }

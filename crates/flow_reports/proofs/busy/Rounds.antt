@@ -1,5 +1,5 @@
 -- Rounds of queries for words of tests' sets.
-use Rattle.std.proofs.Common.{◌≡◌, ◌∙◌, ℕ, true, ◌+◌, ◌*◌, ◌<◌, ◌≤◌, List, [], ◌∷◌, ◌++◌, None, Some, length, slice_get, slice_index, slice_index_or}
+use Rattle.std.proofs.Common.{◌≡◌, ◌∙◌, ℕ, zero, suc, true, ◌+◌, ◌*◌, ◌<◌, ◌≤◌, List, [], ◌∷◌, ◌++◌, None, Some, length, slice_get, slice_index, slice_index_or}
 use Rattle.std.proofs.Common.{slice_set, take, refl, sym, ap, ap₂, subst, arith}
 use Rattle.std.proofs.lemmas.List.{get_or-set_other, get_or-take, length-take-le}
 use Rattle.std.proofs.lemmas.Nat.{div-mul-add, mod-mul-add}
@@ -9,7 +9,9 @@ use Rattle.bit_rows.specs.Words.{has_bit}
 use Rattle.flow_queries.specs.Queries.{AreQueriesOf, IsAnswerTo, IsWordAt}
 use Rattle.flow_queries.specs.declared.query.Query.{Query}
 use Rattle.flow_reports.specs.code.Busy.{AreBusy, QueriesRound, BusyLists, Keeps, busy_query, round_query}
+use Rattle.flow_reports.specs.code.Chosen.{AsksOnly}
 use Rattle.flow_reports.specs.declared.busy_words.BusyWord.{BusyWord}
+use Rattle.flow_reports.specs.declared.chosen_bits.ChosenBits.{ChosenBits}
 use Rattle.flow_reports.proofs.busy.Lists.{get_before, still}
 use Rattle.tac_program.specs.Programs.{Program}
 
@@ -49,11 +51,11 @@ keeps_put firsts words one number busy new count first more = record {
 }
 
 -- what the other lists tell stays told
-pub others_still : (program : Program) (old new : BusyLists) (one i point from : ℕ) → Keeps old new one → ¬ (i ≡ one)
-    → AreBusy program old.words point from (slice_index old.firsts i) → AreBusy program new.words point from (slice_index new.firsts i)
-others_still program old new one i point from keeps other answered =
-    subst (λ (n : ℕ). AreBusy program new.words point from n) (sym (keeps.firsts i other))
-    (still program point old.words new.words keeps.words from (slice_index old.firsts i) answered)
+pub others_still : (chosen : ChosenBits) (program : Program) (old new : BusyLists) (one i point from : ℕ) → Keeps old new one → ¬ (i ≡ one)
+    → AreBusy chosen program old.words point from (slice_index old.firsts i) → AreBusy chosen program new.words point from (slice_index new.firsts i)
+others_still chosen program old new one i point from keeps other answered =
+    subst (λ (n : ℕ). AreBusy chosen program new.words point from n) (sym (keeps.firsts i other))
+    (still chosen program point old.words new.words keeps.words from (slice_index old.firsts i) answered)
 
 -- a query that stands among the first ones
 pub take_still : (queries : List Query) (count q : ℕ) (query : Query) → count ≤ length queries → q < count → slice_get queries q ≡ Some query
@@ -61,6 +63,17 @@ pub take_still : (queries : List Query) (count q : ℕ) (query : Query) → coun
 take_still queries count q query within inside there =
     slice_get-get_or (take count queries) q query (omega (arith, inside, length-take-le count queries within))
     ∙ ap Some (get_or-take count queries q query inside ∙ get_or_from_slice_get queries q query query there)
+
+-- the first queries ask for nothing else than all
+taken_there : (queries : List Query) (count q : ℕ) (query : Query) → slice_get (take count queries) q ≡ Some query → slice_get queries q ≡ Some query
+taken_there [] zero q query there = there
+taken_there [] (suc count) q query there = there
+taken_there (one ∷ queries) zero q query there = absurd (cc there)
+taken_there (one ∷ queries) (suc count) zero query there = there
+taken_there (one ∷ queries) (suc count) (suc q) query there = taken_there queries count q query there
+
+pub only_first : (chosen : ChosenBits) (queries : List Query) (count : ℕ) → AsksOnly chosen queries → AsksOnly chosen (take count queries)
+only_first chosen queries count only q query there = only q query (taken_there queries count q query there)
 
 -- where all queries are kept there are no fewer
 pub kept_longer : (old new : List Query) → ((q : ℕ) (query : Query) → slice_get old q ≡ Some query → slice_get new q ≡ Some query) → length old ≤ length new
@@ -74,6 +87,12 @@ kept_longer (one ∷ old) new kept =
 -- no query is of any program
 pub none_queried : (program : Program) (queries : List Query) → queries ≡ [] → AreQueriesOf program queries
 none_queried program queries none q query there =
+    let both : None ≡ Some query = ap (λ (all : List Query). slice_get all q) (sym none) ∙ there in
+    absurd (cc both)
+
+-- nor asks for what is not wanted
+pub none_asked : (chosen : ChosenBits) (queries : List Query) → queries ≡ [] → AsksOnly chosen queries
+none_asked chosen queries none q query there =
     let both : None ≡ Some query = ap (λ (all : List Query). slice_get all q) (sym none) ∙ there in
     absurd (cc both)
 

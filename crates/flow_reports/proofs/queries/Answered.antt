@@ -1,10 +1,10 @@
 -- What answers tell where they were asked for.
 use Rattle.std.proofs.Common.{◌≡◌, ◌↔◌, ◌∙◌, ℕ, zero, suc, ◌+◌, ◌*◌, ◌/◌, ◌%◌, ◌^◌, ◌<◌, Bool, true, false, ◌&&◌, List, [], ◌∷◌, Some, length, nat_eq}
-use Rattle.std.proofs.Common.{slice_get, slice_index, if◌then◌else◌, refl, sym, ap, subst, arith}
+use Rattle.std.proofs.Common.{slice_get, slice_index, if◌then◌else◌, inl, inr, refl, sym, ap, subst, arith}
 use Rattle.std.proofs.lemmas.Bool.{eqb-true}
 use Rattle.std.proofs.lemmas.Bool.Decides.{same_from_decides}
 use Rattle.std.proofs.lemmas.Nat.{one_shl}
-use Rattle.bit_rows.proofs.words.WordBits.{has_bit-shifted_same}
+use Rattle.bit_rows.proofs.words.WordBits.{has_bit-shifted_same, has_bit-zero}
 use Rattle.bit_rows.specs.Words.{has_bit}
 use Rattle.flow_graph.specs.Analyses.{IsInTable}
 use Rattle.flow_graph.specs.Universes.{bits}
@@ -15,6 +15,8 @@ use Rattle.tac_program.specs.Programs.{Program}
 use Rattle.flow_queries.specs.Queries.{AreAnswers, IsAnswerTo, Replies}
 use Rattle.flow_queries.specs.declared.query.Query.{Query}
 use Rattle.flow_reports.specs.code.Answered.{answer_in, query_for, facts_in, is_analysis, is_query}
+use Rattle.flow_reports.specs.code.Chosen.{AsksOnly, blank_query, wanted_query, wants}
+use Rattle.flow_reports.specs.declared.chosen_bits.ChosenBits.{ChosenBits}
 
 same_analysis : (a b : Analysis) → is_analysis a b ≡ true → a ≡ b
 same_analysis Reach Reach is = refl
@@ -105,11 +107,56 @@ bit_known program replies are analysis point bit q there =
     whole ((λ has. let found = known.0 has in (found.1, found.2)), (λ found. known.1 (its_bit bit, found.0, found.1)))
 
 -- the answer to its query has the bit where it is told
-pub word_known : (program : Program) (replies : Replies) → AreAnswers program replies → (analysis : Analysis) (point bit q : ℕ)
+asked_known : (program : Program) (replies : Replies) → AreAnswers program replies → (analysis : Analysis) (point bit q : ℕ)
     → slice_get replies.queries q ≡ Some (query_for analysis point bit)
     → has_bit (slice_index replies.words q) (bit % 64) ≡ (facts_in replies analysis).contains point bit
-word_known program replies are analysis point bit q there =
+asked_known program replies are analysis point bit q there =
     let query : Query = query_for analysis point bit in
     let small : bit % 64 < 64 = omega arith in
     same_from_decides (has_bit (slice_index replies.words q) (bit % 64)) (has_bit (answer_in replies.queries replies.words query) (bit % 64))
     (are.sets q query there (bit % 64) small) (answered program replies.queries replies.words are.count are.sets q query there (bit % 64) small)
+
+-- a query that is not asked has no answer
+unasked : (queries : List Query) (words : List ℕ) (query : Query) → ((q : ℕ) → ¬ (slice_get queries q ≡ Some query))
+    → answer_in queries words query ≡ 0
+unasked [] words query none = refl
+unasked (one ∷ queries) [] query none = refl
+unasked (one ∷ queries) (word ∷ words) query none =
+    by_test (is_query one query) refl (unasked queries words query (λ q there. none (suc q) there))
+  where
+    by_test : (b : Bool) → is_query one query ≡ b → answer_in queries words query ≡ 0 → (if b then word else answer_in queries words query) ≡ 0
+    by_test true is rest = absurd (none 0 (ap (λ a. Some a) (same_query one query is)))
+    by_test false is rest = rest
+
+-- and a bit that is not wanted is not asked
+not_asked : (chosen : ChosenBits) (queries : List Query) → AsksOnly chosen queries → (analysis : Analysis) (point bit : ℕ)
+    → wants chosen analysis bit ≡ false → (q : ℕ) → ¬ (slice_get queries q ≡ Some (query_for analysis point bit))
+not_asked chosen queries only analysis point bit off q there = elim (only q (query_for analysis point bit) there) [
+  | inl none ↦ (
+      let both : true ≡ false = sym (its_bit bit) ∙ ap (λ (n : ℕ). has_bit n (bit % 64)) none ∙ has_bit-zero (bit % 64) in cc both)
+  | inr on ↦ (let both : true ≡ false = sym on ∙ off in cc both)
+]
+
+no_bit : (b : Bool) → ¬ (b ≡ true) → b ≡ false
+no_bit true never = absurd (never refl)
+no_bit false never = refl
+
+-- The answer at a bit's place has it where it is told; a bit that is not wanted is in neither.
+pub word_known : (chosen : ChosenBits) (program : Program) (replies : Replies) → AreAnswers program replies → AsksOnly chosen replies.queries
+    → (analysis : Analysis) (point bit q : ℕ) → slice_get replies.queries q ≡ Some (wanted_query chosen analysis point bit)
+    → has_bit (slice_index replies.words q) (bit % 64) ≡ (facts_in replies analysis).contains point bit
+word_known chosen program replies are only analysis point bit q there = by_choice (wants chosen analysis bit) refl
+  where
+    by_choice : (b : Bool) → wants chosen analysis bit ≡ b
+        → has_bit (slice_index replies.words q) (bit % 64) ≡ (facts_in replies analysis).contains point bit
+    by_choice true on =
+        asked_known program replies are analysis point bit q (there ∙ ap (λ (b : Bool). Some (if b then query_for analysis point bit else blank_query analysis point)) on)
+    by_choice false off =
+        let blank : slice_get replies.queries q ≡ Some (blank_query analysis point) = there ∙ ap (λ (b : Bool). Some (if b then query_for analysis point bit else blank_query analysis point)) off in
+        let answers = are.sets q (blank_query analysis point) blank (bit % 64) (omega arith) in
+        no_bit (has_bit (slice_index replies.words q) (bit % 64))
+        (λ has. let both : true ≡ false = sym (answers.0 has).0 ∙ has_bit-zero (bit % 64) in cc both)
+        ∙ sym
+        (ap (λ (w : ℕ). has_bit w (bit % 64))
+        (unasked replies.queries replies.words (query_for analysis point bit) (not_asked chosen replies.queries only analysis point bit off))
+        ∙ has_bit-zero (bit % 64))

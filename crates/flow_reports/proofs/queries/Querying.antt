@@ -1,9 +1,10 @@
 -- Queries that are put behind others.
-use Rattle.std.proofs.Common.{◌≡◌, ◌⊎◌, ◌∙◌, ℕ, zero, suc, ◌+◌, ◌<◌, ◌≤◌, true, List, [], ◌∷◌, ◌++◌, map, Some, length}
+use Rattle.std.proofs.Common.{◌≡◌, ◌⊎◌, ◌∙◌, ℕ, zero, suc, ◌+◌, ◌<◌, ◌≤◌, Bool, true, false, if◌then◌else◌, List, [], ◌∷◌, ◌++◌, map, Some, length}
 use Rattle.std.proofs.Common.{nat_eq, slice_get, inl, inr, refl, sym, ap, subst, arith, length-append}
 use Rattle.std.specs.List.{list_any}
 use Rattle.std.proofs.lemmas.Bool.{cases_lt, or_cases}
 use Rattle.flow_graph.specs.Points.{kind_at, point_count}
+use Rattle.flow_graph.specs.declared.analysis.Analysis.{Analysis}
 use Rattle.flow_graph.specs.declared.analysis.Analysis.TheVariants.{Reach}
 use Rattle.tac_program.specs.Programs.{Program}
 use Rattle.tac_program.specs.Sound.{IsSound}
@@ -15,6 +16,8 @@ use Rattle.flow_reports.specs.code.Busy.{ArePoints}
 use Rattle.flow_reports.specs.code.Operands.{AreRead}
 use Rattle.flow_reports.specs.code.Reported.{AreQueried, AreQueriedAt}
 use Rattle.flow_reports.specs.code.Answered.{query_for}
+use Rattle.flow_reports.specs.code.Chosen.{IsWanted, blank_query, wanted_query, wants}
+use Rattle.flow_reports.specs.declared.chosen_bits.ChosenBits.{ChosenBits}
 use Rattle.flow_reports.specs.declared.report_queries.PointQueries.{PointQueries}
 use Rattle.flow_reports.proofs.knowledge.RemarkLines.{same_read, variables_are_there, variables_have_dummies}
 
@@ -63,39 +66,63 @@ place_before (first ∷ places) here (suc p) at is = elim (place_before places h
 pub put_there : (old new : List Query) (query : Query) → new ≡ old ++ query ∷ [] → slice_get new (length old) ≡ Some query
 put_there old new query is = ap (λ queries. slice_get queries (length old)) is ∙ get_last old query
 
-module _ (program : Program) where
+-- a query for a bit, or for none, is of the program if that for the bit is
+pub wanted_is_query : (chosen : ChosenBits) (program : Program) (analysis : Analysis) (point bit : ℕ) → IsQueryOf program (query_for analysis point bit)
+    → IsQueryOf program (wanted_query chosen analysis point bit)
+wanted_is_query chosen program analysis point bit of = by_choice (wants chosen analysis bit)
+  where
+    by_choice : (b : Bool) → IsQueryOf program (if b then query_for analysis point bit else blank_query analysis point)
+    by_choice true = of
+    by_choice false = record { point = of.point; word = omega (arith, of.word) }
+
+-- and asks for nothing else than what is wanted
+pub wanted_is_wanted : (chosen : ChosenBits) (analysis : Analysis) (point bit : ℕ) → IsWanted chosen (wanted_query chosen analysis point bit)
+wanted_is_wanted chosen analysis point bit = by_choice (wants chosen analysis bit) refl
+  where
+    by_choice : (b : Bool) → wants chosen analysis bit ≡ b
+        → IsWanted chosen (if b then query_for analysis point bit else blank_query analysis point)
+    by_choice true on = inr on
+    by_choice false off = inl refl
+
+module _ (chosen : ChosenBits) (program : Program) where
   -- one query more
-  pub queries_one : (old new : List Query) (query : Query) (most : ℕ) → new ≡ old ++ query ∷ [] → IsQueryOf program query → 1 ≤ most → Queries program old new most
-  queries_one old new query most is of room = subst (λ (queries : List Query). Queries program old queries most) (sym is) (record {
+  pub queries_one : (old new : List Query) (query : Query) (most : ℕ) → new ≡ old ++ query ∷ [] → IsQueryOf program query → IsWanted chosen query
+      → 1 ≤ most → Queries chosen program old new most
+  queries_one old new query most is of wanted room = subst (λ (queries : List Query). Queries chosen program old queries most) (sym is) (record {
     kept = λ q one there. get_before old (query ∷ []) q one there;
     of = λ are q one there. elim (get_of_more old query q one there) [
       | inl same ↦ subst (IsQueryOf program) (sym same) of
       | inr before ↦ are q one before
     ];
+    only = λ are q one there. elim (get_of_more old query q one there) [
+      | inl same ↦ subst (IsWanted chosen) (sym same) wanted
+      | inr before ↦ are q one before
+    ];
     count = omega (arith, length-append old (query ∷ []), room);
   })
 
-  pub queries_then : (old mid new : List Query) (first second most : ℕ) → Queries program old mid first → Queries program mid new second → first + second ≤ most
-      → Queries program old new most
+  pub queries_then : (old mid new : List Query) (first second most : ℕ) → Queries chosen program old mid first → Queries chosen program mid new second → first + second ≤ most
+      → Queries chosen program old new most
   queries_then old mid new first second most before after room = record {
     kept = λ q query there. after.kept q query (before.kept q query there);
     of = λ are. after.of (before.of are);
+    only = λ are. after.only (before.only are);
     count = omega (arith, before.count, after.count, room);
   }
 
   pub reads_still : (old new : List Query) (place point : ℕ) (kind : StmtKind)
-      → ((q : ℕ) (query : Query) → slice_get old q ≡ Some query → slice_get new q ≡ Some query) → QueriesReads old place point kind
-      → QueriesReads new place point kind
+      → ((q : ℕ) (query : Query) → slice_get old q ≡ Some query → slice_get new q ≡ Some query) → QueriesReads chosen old place point kind
+      → QueriesReads chosen new place point kind
   reads_still old new place point kind kept queried = record {
-    each = λ variables are i variable at. kept (place + i) (query_for Reach point variable) (queried.each variables are i variable at);
-    all = λ variable reading. let found = queried.all variable reading in (found.0, kept found.0 (query_for Reach point variable) found.1);
+    each = λ variables are i variable at. kept (place + i) (wanted_query chosen Reach point variable) (queried.each variables are i variable at);
+    all = λ variable reading. let found = queried.all variable reading in (found.0, kept found.0 (wanted_query chosen Reach point variable) found.1);
   }
 
   -- what was asked at a statement stays asked
   pub queried_still : (old new : List Query) (before after : List ℕ) (here : PointQueries) (point : ℕ) (kind : StmtKind)
       → ((q : ℕ) (query : Query) → slice_get old q ≡ Some query → slice_get new q ≡ Some query)
       → ((i test : ℕ) → slice_get before i ≡ Some test → slice_get after i ≡ Some test)
-      → AreQueriedAt program old before here point kind → AreQueriedAt program new after here point kind
+      → AreQueriedAt chosen program old before here point kind → AreQueriedAt chosen program new after here point kind
   queried_still old new before after here point kind kept still queried = record {
     reads = reads_still old new here.reads point kind kept queried.reads;
     evaluated = λ bit is. kept here.evaluated _ (queried.evaluated bit is);
@@ -105,17 +132,17 @@ module _ (program : Program) where
 
   -- and one statement more is
   pub queried_more : (old new : List Query) (before after : List ℕ) (places more : List PointQueries) (here : PointQueries) (point most : ℕ)
-      → more ≡ places ++ here ∷ [] → length places ≡ point → Queries program old new most
+      → more ≡ places ++ here ∷ [] → length places ≡ point → Queries chosen program old new most
       → ((i test : ℕ) → slice_get before i ≡ Some test → slice_get after i ≡ Some test)
-      → ((kind : StmtKind) → kind_at program point ≡ Some kind → AreQueriedAt program new after here point kind)
-      → AreQueried program old before places → AreQueried program new after more
+      → ((kind : StmtKind) → kind_at program point ≡ Some kind → AreQueriedAt chosen program new after here point kind)
+      → AreQueried chosen program old before places → AreQueried chosen program new after more
   queried_more old new before after places more here point most is count queries still queried queried_before p at kind there stands_there =
       let there_ : slice_get (places ++ here ∷ []) p ≡ Some at = ap (λ ps. slice_get ps p) (sym is) ∙ there in
       elim (place_before places here p at there_) [
         | inl last ↦ (
             let same : p ≡ point = last.0 ∙ count in
-            subst (λ (q : ℕ). kind_at program q ≡ Some kind → AreQueriedAt program new after at q kind) (sym same)
-            (λ stood. subst (λ (a : PointQueries). AreQueriedAt program new after a point kind) (sym last.1) (queried kind stood)) stands_there)
+            subst (λ (q : ℕ). kind_at program q ≡ Some kind → AreQueriedAt chosen program new after at q kind) (sym same)
+            (λ stood. subst (λ (a : PointQueries). AreQueriedAt chosen program new after a point kind) (sym last.1) (queried kind stood)) stands_there)
         | inr earlier ↦ queried_still old new before after at p kind queries.kept still (queried_before p at kind earlier stands_there)
       ]
 
@@ -132,11 +159,11 @@ one_round_more first number one_of old new query is of count before n below = el
 ]
 
 -- the queries for variables, put in their order
-in_order : (point : ℕ) (variables : List ℕ) (i variable : ℕ) → slice_get variables i ≡ Some variable
-    → slice_get (map (query_for Reach point) variables) i ≡ Some (query_for Reach point variable)
-in_order point [] i variable is = absurd (cc is)
-in_order point (x ∷ variables) zero variable is = let same : x ≡ variable = cc is in ap (λ v. Some (query_for Reach point v)) same
-in_order point (x ∷ variables) (suc i) variable is = in_order point variables i variable is
+in_order : (query_of : ℕ → Query) (variables : List ℕ) (i variable : ℕ) → slice_get variables i ≡ Some variable
+    → slice_get (map query_of variables) i ≡ Some (query_of variable)
+in_order query_of [] i variable is = absurd (cc is)
+in_order query_of (x ∷ variables) zero variable is = let same : x ≡ variable = cc is in ap (λ v. Some (query_of v)) same
+in_order query_of (x ∷ variables) (suc i) variable is = in_order query_of variables i variable is
 
 get_behind : (old more : List Query) (i : ℕ) → slice_get (old ++ more) (length old + i) ≡ slice_get more i
 get_behind [] more i = let first : 0 + i ≡ i = omega arith in ap (slice_get more) first
@@ -151,11 +178,11 @@ place_of variable (x ∷ variables) is = elim (or_cases (nat_eq variable x) (lis
   | inr later ↦ (let rest = place_of variable variables later in (suc rest.0, rest.1))
 ]
 
-module _ (program : Program) (point : ℕ) (kind : StmtKind) (sound : IsSound program) (below : point < point_count program)
+module _ (chosen : ChosenBits) (program : Program) (point : ℕ) (kind : StmtKind) (sound : IsSound program) (below : point < point_count program)
     (at : kind_at program point ≡ Some kind) where
   -- the queries for the variables that the statement reads stand behind the others
-  pub reads_queried : (old new : List Query) (variables : List ℕ) → AreRead kind variables → new ≡ old ++ map (query_for Reach point) variables
-      → QueriesReads new (length old) point kind
+  pub reads_queried : (old new : List Query) (variables : List ℕ) → AreRead kind variables → new ≡ old ++ map (wanted_query chosen Reach point) variables
+      → QueriesReads chosen new (length old) point kind
   reads_queried old new variables are is = record {
     each = λ others are_others i variable there. queried i variable
         (subst (λ vs. slice_get vs i ≡ Some variable) (same_read program point kind others variables sound below at are_others are) there);
@@ -163,31 +190,31 @@ module _ (program : Program) (point : ℕ) (kind : StmtKind) (sound : IsSound pr
         (length old + found.0, queried found.0 variable found.1);
   }
     where
-      queried : (i variable : ℕ) → slice_get variables i ≡ Some variable → slice_get new (length old + i) ≡ Some (query_for Reach point variable)
+      queried : (i variable : ℕ) → slice_get variables i ≡ Some variable → slice_get new (length old + i) ≡ Some (wanted_query chosen Reach point variable)
       queried i variable there =
-          ap (λ queries. slice_get queries (length old + i)) is ∙ get_behind old (map (query_for Reach point) variables) i
-          ∙ in_order point variables i variable there
+          ap (λ queries. slice_get queries (length old + i)) is ∙ get_behind old (map (wanted_query chosen Reach point) variables) i
+          ∙ in_order (wanted_query chosen Reach point) variables i variable there
 
   -- the query for a variable that it reads is of the program
   pub read_is_query : (variables : List ℕ) → AreRead kind variables → (variable : ℕ) → list_any (nat_eq variable) variables ≡ true
-      → IsQueryOf program (query_for Reach point variable)
-  read_is_query variables are variable among = record {
+      → IsQueryOf program (wanted_query chosen Reach point variable)
+  read_is_query variables are variable among = wanted_is_query chosen program Reach point variable (record {
     point = below;
     word = omega (arith, variables_are_there program point kind variables sound below at are variable among, variables_have_dummies program);
-  }
+  })
 
 -- the queries for one variable, and for two
-pub first_read : (queries : List Query) (place point variable : ℕ) (kind : StmtKind) (others : List ℕ) → QueriesReads queries place point kind
+pub first_read : (chosen : ChosenBits) (queries : List Query) (place point variable : ℕ) (kind : StmtKind) (others : List ℕ) → QueriesReads chosen queries place point kind
     → AreRead kind (variable ∷ others)
-    → slice_get queries place ≡ Some (query_for Reach point variable)
-first_read queries place point variable kind others queried are =
+    → slice_get queries place ≡ Some (wanted_query chosen Reach point variable)
+first_read chosen queries place point variable kind others queried are =
     let here : place + 0 ≡ place = omega arith in
-    subst (λ (q : ℕ). slice_get queries q ≡ Some (query_for Reach point variable)) here (queried.each (variable ∷ others) are 0 variable refl)
+    subst (λ (q : ℕ). slice_get queries q ≡ Some (wanted_query chosen Reach point variable)) here (queried.each (variable ∷ others) are 0 variable refl)
 
-pub second_read : (queries : List Query) (place point first second : ℕ) (kind : StmtKind) → QueriesReads queries place point kind
+pub second_read : (chosen : ChosenBits) (queries : List Query) (place point first second : ℕ) (kind : StmtKind) → QueriesReads chosen queries place point kind
     → AreRead kind (first ∷ second ∷ [])
-    → slice_get queries (place + 1) ≡ Some (query_for Reach point second)
-second_read queries place point first second kind queried are = queried.each (first ∷ second ∷ []) are 1 second refl
+    → slice_get queries (place + 1) ≡ Some (wanted_query chosen Reach point second)
+second_read chosen queries place point first second kind queried are = queried.each (first ∷ second ∷ []) are 1 second refl
 
 -- tests stay where they were put
 pub tests_still : (old new : List ℕ) (point : ℕ) → PutsPoint old new point → (i test : ℕ) → slice_get old i ≡ Some test → slice_get new i ≡ Some test

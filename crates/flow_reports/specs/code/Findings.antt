@@ -12,7 +12,7 @@ use Rattle.tac_program.specs.Sound.{IsSound}
 use Rattle.text_pieces.specs.code.Lists.{AreTexts}
 use Rattle.flow_reports.specs.Reports.{Knowledge, remark_text}
 use Rattle.flow_texts.specs.Tables.{bit_text, variable_text}
-use Rattle.flow_reports.specs.code.Reported.{TellReport, busy_facts}
+use Rattle.flow_reports.specs.code.Reported.{TellChosen, TellReport, busy_facts}
 use Rattle.flow_reports.specs.code.Answered.{facts_in}
 use Rattle.flow_reports.specs.declared.findings.Findings.{Findings}
 use Rattle.flow_reports.specs.declared.remark.Remark.{Remark}
@@ -29,6 +29,14 @@ pub record AreFindings (found : Findings) : Type 0 where
   pub sound : IsSound found.graph.now
   pub few : HasFewPoints Large found.graph.now
   pub answers : TellReport found.graph.now found.answers.now
+  pub doubts : length found.doubtful.items ≡ point_count found.graph.now
+  pub expressions : AreTexts (bit_text found.graph.now Avail) (bits found.graph.now Avail) found.expressions.texts
+
+-- The same of answers that tell what was chosen of a report.
+pub record AreChosenFindings (found : Findings) : Type 0 where
+  pub sound : IsSound found.graph.now
+  pub few : HasFewPoints Large found.graph.now
+  pub answers : TellChosen found.answers.now.chosen found.graph.now found.answers.now
   pub doubts : length found.doubtful.items ≡ point_count found.graph.now
   pub expressions : AreTexts (bit_text found.graph.now Avail) (bits found.graph.now Avail) found.expressions.texts
 

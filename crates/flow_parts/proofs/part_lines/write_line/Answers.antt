@@ -26,5 +26,5 @@ returns g c =
     (takes_then _ _ _ _ _ (takes_then _ _ _ _ _ (takes_then _ _ _ _ _ (takes_then _ _ _ _ _ c.write_number.ensures c.write.ensures)
     c.write-2.ensures) c.write-3.ensures) c.write-4.ensures) c.write-5.ensures)
     (pieces (decimal c.line.result) (decimal (line_at program c.args.point)) (codes ": ") c.words_before_name.result.now (words_before remark)
-    c.name.result.now (remark_name program remark) c.words_behind_name.result.now (words_behind remark) (codes "\n") (remark_text program remark)
-    (ap decimal c.line.ensures) c.words_before_name.ensures c.name.ensures c.words_behind_name.ensures (text_is program remark))
+    c.chosen_name.result.now (remark_name program remark) c.words_behind_name.result.now (words_behind remark) (codes "\n") (remark_text program remark)
+    (ap decimal c.line.ensures) c.words_before_name.ensures c.chosen_name.ensures c.words_behind_name.ensures (text_is program remark))

@@ -9,7 +9,7 @@ use Rattle.flow_parts.proofs.parts.write_lines.Goals as goal
 
 pub loop-point-preserved : goal.loop-point-preserved
 loop-point-preserved g c =
-    takes_as _ _ _ _ (takes_then _ _ _ _ _ c.loop-point.invariant c.write_remarks.ensures)
+    takes_as _ _ _ _ (takes_then _ _ _ _ _ c.loop-point.invariant c.write_chosen_remarks.ensures)
     (sym (flat_map-range_more
     (lines_in c.args.found.now.graph.now (knowledge_of c.args.found.now) c.args.share.count c.args.share.part) c.loop-point.point))
 

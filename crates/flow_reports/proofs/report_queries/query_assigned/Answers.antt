@@ -3,9 +3,11 @@ use Rattle.std.proofs.lemmas.Result.{IfOk-weaker}
 use Rattle.flow_graph.specs.declared.analysis.Analysis.TheVariants.{Live}
 use Rattle.flow_graph.proofs.places.Standing.{stands}
 use Rattle.flow_queries.specs.Queries.{IsQueryOf}
-use Rattle.flow_reports.specs.code.Answered.{query_for}
+use Rattle.flow_reports.specs.code.Chosen.{wanted_query}
 use Rattle.tac_program.specs.Programs.{Program}
-use Rattle.flow_reports.proofs.queries.Querying.{queries_one, put_there}
+use Rattle.flow_reports.specs.code.Answered.{query_for}
+use Rattle.flow_reports.specs.code.Chosen.{IsWanted}
+use Rattle.flow_reports.proofs.queries.Querying.{queries_one, put_there, wanted_is_query, wanted_is_wanted}
 use Rattle.flow_reports.proofs.knowledge.RemarkLines.{assigned_there, next_below}
 use Rattle.flow_reports.proofs.report_queries.query_assigned.Goals as goal
 
@@ -16,16 +18,19 @@ returns-in-Some-clause-queries c =
     let variable : ℕ = c.in-Some.variable in
     let there : variable < length program.variable_names =
     assigned_there program c.args.point variable c.args.kind.now stand (sym c.in-Some.ensures) in
-    let of : IsQueryOf program (query_for Live (c.args.point + 1) variable) =
+    let asked : IsQueryOf program (query_for Live (c.args.point + 1) variable) =
     record { point = next_below program c.args.point c.args.kind.now stand; word = omega (arith, there) } in
-    IfOk-weaker c.put_query.result _ _ (λ _ is. queries_one program c.args.queries.now.items c.put_query.new.queries.items c.query_for.result 1 is
-    (subst (IsQueryOf program) (sym c.query_for.ensures) of) (omega arith)) c.put_query.ensures
+    let of : IsQueryOf program (wanted_query c.args.chosen Live (c.args.point + 1) variable) =
+    wanted_is_query c.args.chosen program Live (c.args.point + 1) variable asked in
+    IfOk-weaker c.put_query.result _ _ (λ _ is. queries_one c.args.chosen program c.args.queries.now.items c.put_query.new.queries.items c.wanted_query.result 1 is
+    (subst (IsQueryOf program) (sym c.wanted_query.ensures) of)
+    (subst (IsWanted c.args.chosen) (sym c.wanted_query.ensures) (wanted_is_wanted c.args.chosen Live (c.args.point + 1) variable)) (omega arith)) c.put_query.ensures
 
 pub returns-in-Some-clause-queried : goal.returns-in-Some-clause-queried
 returns-in-Some-clause-queried c =
     IfOk-weaker c.put_query.result _ _
     (λ _ is variable sets.
     let same : c.in-Some.variable ≡ variable = cc (c.in-Some.ensures ∙ sets) in
-    put_there c.args.queries.now.items c.put_query.new.queries.items c.query_for.result is
-    ∙ ap (λ a. Some a) (c.query_for.ensures ∙ ap (query_for Live (c.args.point + 1)) same))
+    put_there c.args.queries.now.items c.put_query.new.queries.items c.wanted_query.result is
+    ∙ ap (λ a. Some a) (c.wanted_query.ensures ∙ ap (wanted_query c.args.chosen Live (c.args.point + 1)) same))
     c.put_query.ensures

@@ -1,7 +1,7 @@
 use Rattle.std.proofs.Common.{rules, ◌≡◌, ℕ, List, length, subst, sym, arith}
 use Rattle.flow_graph.specs.declared.analysis.Analysis.TheVariants.{Avail}
 use Rattle.flow_queries.specs.declared.query.Query.{Query}
-use Rattle.flow_reports.specs.code.Answered.{query_for}
+use Rattle.flow_reports.specs.code.Chosen.{wanted_query}
 use Rattle.tac_program.specs.declared.program.StmtKind.{StmtKind}
 use Rattle.flow_reports.specs.code.Querying.{Queries, QueriesAssigned, QueriesEvaluated, QueriesReads, IsAmongTests}
 use Rattle.tac_program.specs.Programs.{Program}
@@ -15,8 +15,8 @@ returns-clause-queries c =
     let b : List Query = c.query_reads.new.queries.items in
     let d : List Query = c.query_evaluated.new.queries.items in
     let e : List Query = c.query_assigned.new.queries.items in
-    queries_then program a b e 2 2 4 c.in_ok-query_reads.ensures.queries
-    (queries_then program b d e 1 1 2 c.in_ok-query_evaluated.ensures.queries c.in_ok-query_assigned.ensures.queries (omega arith)) (omega arith)
+    queries_then c.args.chosen program a b e 2 2 4 c.in_ok-query_reads.ensures.queries
+    (queries_then c.args.chosen program b d e 1 1 2 c.in_ok-query_evaluated.ensures.queries c.in_ok-query_assigned.ensures.queries (omega arith)) (omega arith)
 
 pub returns-clause-queried : goal.returns-clause-queried
 returns-clause-queried c =
@@ -31,13 +31,13 @@ returns-clause-queried c =
     let second : c.len-evaluated.result ≡ length b = search rules in
     let third : c.len-assigned.result ≡ length d = search rules in
     let fourth : c.len-test.result ≡ length c.args.tests.now.items = search rules in
-    let last : Queries program d e 1 = c.in_ok-query_assigned.ensures.queries in
-    let all : Queries program b e 2 = queries_then program b d e 1 1 2 c.in_ok-query_evaluated.ensures.queries last (omega arith) in
+    let last : Queries c.args.chosen program d e 1 = c.in_ok-query_assigned.ensures.queries in
+    let all : Queries c.args.chosen program b e 2 = queries_then c.args.chosen program b d e 1 1 2 c.in_ok-query_evaluated.ensures.queries last (omega arith) in
     record {
-      reads = subst (λ (q : ℕ). QueriesReads e q point kind) (sym first)
-          (reads_still program b e (length a) point kind all.kept c.in_ok-query_reads.ensures.queried);
-      evaluated = subst (λ (q : ℕ). QueriesEvaluated program e q point) (sym second)
-          (λ bit is. last.kept (length b) (query_for Avail point bit) (c.in_ok-query_evaluated.ensures.queried bit is));
-      assigned = subst (λ (q : ℕ). QueriesAssigned e q point kind) (sym third) c.in_ok-query_assigned.ensures.queried;
+      reads = subst (λ (q : ℕ). QueriesReads c.args.chosen e q point kind) (sym first)
+          (reads_still c.args.chosen program b e (length a) point kind all.kept c.in_ok-query_reads.ensures.queried);
+      evaluated = subst (λ (q : ℕ). QueriesEvaluated c.args.chosen program e q point) (sym second)
+          (λ bit is. last.kept (length b) (wanted_query c.args.chosen Avail point bit) (c.in_ok-query_evaluated.ensures.queried bit is));
+      assigned = subst (λ (q : ℕ). QueriesAssigned c.args.chosen e q point kind) (sym third) c.in_ok-query_assigned.ensures.queried;
       test = subst (λ (q : ℕ). IsAmongTests c.put_test.new.tests.items q point kind) (sym fourth) c.in_ok-put_test.ensures.queried;
     }

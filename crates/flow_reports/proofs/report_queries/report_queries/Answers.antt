@@ -22,10 +22,11 @@ loop-point-preserved c =
     let count : length c.push.new.self.items ≡ length places + 1 = ap length c.in_ok-push.ensures.items ∙ length-append places (here ∷ []) in
     record {
       queries = answered.queries.of was.queries;
+      only = answered.queries.only was.only;
       few = omega (arith, answered.queries.count, was.few);
       count = omega (arith, count, was.count);
       queried =
-          queried_more program old new before after places c.push.new.self.items here point 4 c.in_ok-push.ensures.items was.count answered.queries
+          queried_more c.args.chosen program old new before after places c.push.new.self.items here point 4 c.in_ok-push.ensures.items was.count answered.queries
           (tests_still before after point answered.tests) answered.queried was.queried;
       points = points_more program before after point below answered.tests was.points;
       tests = omega (arith, tests_count before after point answered.tests, was.tests);

@@ -27,16 +27,16 @@ loop-test-preserved c =
       done = λ i point below there. elim (cases_lt i test) [
         | inl before ↦ (
             let other : ¬ (i ≡ test) = λ same. omega (arith, before, same) in
-            others_still program old new test i point c.args.round.from put.keeps other (was.done i point before there))
+            others_still c.args.chosen program old new test i point c.args.round.from put.keeps other (was.done i point before there))
         | inr late ↦ (
             let same : test ≡ i = omega (arith, below, late) in
             let named : slice_index points test ≡ point = ap (slice_index points) same ∙ get_or_from_slice_get points i point 0 there in
-            subst (λ (j : ℕ). AreBusy program new.words point c.args.round.from (slice_index new.firsts j)) same
-            (subst (λ (p : ℕ). AreBusy program new.words p c.args.round.from (slice_index new.firsts test)) named put.answered))
+            subst (λ (j : ℕ). AreBusy c.args.chosen program new.words point c.args.round.from (slice_index new.firsts j)) same
+            (subst (λ (p : ℕ). AreBusy c.args.chosen program new.words p c.args.round.from (slice_index new.firsts test)) named put.answered))
       ];
       left = λ i point above there.
           let other : ¬ (i ≡ test) = λ same. omega (arith, above, same) in
-          others_still program old new test i point (c.args.round.from + c.args.round.width) put.keeps other
+          others_still c.args.chosen program old new test i point (c.args.round.from + c.args.round.width) put.keeps other
           (was.left i point (omega (arith, above)) there);
     }
 

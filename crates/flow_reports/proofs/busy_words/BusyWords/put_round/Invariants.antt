@@ -6,7 +6,7 @@ abbrev pub invariant-loop-test : goal.invariant-loop-test
 invariant-loop-test l = record {
   count : length l.self.firsts.items ≡ length l.tests;
   done : (i point : ℕ) → i < l.test → slice_get l.tests i ≡ Some point
-      → AreBusy l.graph l.self.words.items point l.round.from (slice_index l.self.firsts.items i);
+      → AreBusy l.chosen l.graph l.self.words.items point l.round.from (slice_index l.self.firsts.items i);
   left : (i point : ℕ) → l.test ≤ i → slice_get l.tests i ≡ Some point
-      → AreBusy l.graph l.self.words.items point (l.round.from + l.round.width) (slice_index l.self.firsts.items i);
+      → AreBusy l.chosen l.graph l.self.words.items point (l.round.from + l.round.width) (slice_index l.self.firsts.items i);
 }

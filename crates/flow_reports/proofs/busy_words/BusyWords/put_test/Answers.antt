@@ -33,14 +33,15 @@ loop-behind-preserved c =
     let low : 64 * (from + k) < bits program Busy = omega (arith, inside, c.requires.within) in
     let before : from + (width - c.loop-behind.behind) ≡ suc (from + k) = omega (arith, c.loop-behind-test.true) in
     let after : from + k ≡ from + (width - (c.loop-behind.behind + 1)) = omega (arith, c.loop-behind-test.true) in
-    let answered : AreBusy program c.loop-behind.self.words.items point (suc (from + k)) (slice_index c.loop-behind.self.firsts.items c.args.test) =
-    subst (λ (w : ℕ). AreBusy program c.loop-behind.self.words.items point w (slice_index c.loop-behind.self.firsts.items c.args.test)) before
+    let answered : AreBusy c.args._chosen program c.loop-behind.self.words.items point (suc (from + k)) (slice_index c.loop-behind.self.firsts.items c.args.test) =
+    subst (λ (w : ℕ). AreBusy c.args._chosen program c.loop-behind.self.words.items point w (slice_index c.loop-behind.self.firsts.items c.args.test)) before
     c.loop-behind.invariant.answered in
     record {
       keeps =
           keeps_then (busy_lists c.args.self.now) (busy_lists c.loop-behind.self) (busy_lists c.put.new.self) c.args.test
           c.loop-behind.invariant.keeps c.in_ok-put.ensures.keeps;
       answered =
-          subst (λ (w : ℕ). AreBusy program c.put.new.self.words.items point w (slice_index c.put.new.self.firsts.items c.args.test)) after
-          (c.in_ok-put.ensures.answered program point (from + k) is answer low answered);
+          subst (λ (w : ℕ). AreBusy c.args._chosen program c.put.new.self.words.items point w (slice_index c.put.new.self.firsts.items c.args.test)) after
+          (c.in_ok-put.ensures.answered c.args._chosen program point (from + k) is answer low
+          (c.requires.wanted (from + k) (omega arith) (omega (arith, inside))) answered);
     }

@@ -5,6 +5,6 @@ use Rattle.flow_reports.proofs.busy_words.BusyWords.put_test.Given as goal
 abbrev pub invariant-loop-behind : goal.invariant-loop-behind
 invariant-loop-behind l = record {
   keeps : Keeps (busy_lists l.fn.self) (busy_lists l.self) l.test;
-  answered : AreBusy l.graph l.self.words.items (slice_index l.tests l.test) (l.round.from + (l.round.width - l.behind))
+  answered : AreBusy l.fn._chosen l.graph l.self.words.items (slice_index l.tests l.test) (l.round.from + (l.round.width - l.behind))
       (slice_index l.self.firsts.items l.test);
 }

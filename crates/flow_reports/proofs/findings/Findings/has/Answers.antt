@@ -11,4 +11,4 @@ returns c =
     let replies : Replies = c.args.self.now.answers.now.replies in
     ap (λ x. eqb x 1) (shr_and_one c.word.result (c.args.bit % 64))
     ∙ ap (λ n. has_bit n (c.args.bit % 64)) c.word.ensures
-    ∙ word_known c.args.self.now.graph.now replies c.requires.found.answers.answers c.args.analysis c.args.point c.args.bit c.args.number c.requires.queried
+    ∙ word_known c.args.self.now.answers.now.chosen c.args.self.now.graph.now replies c.requires.found.answers.answers c.requires.found.answers.only c.args.analysis c.args.point c.args.bit c.args.number c.requires.queried

@@ -11,7 +11,7 @@ use Rattle.flow_reports.proofs.findings.Findings.put_busy_words.Given as goal
 abbrev pub invariant-loop-busy : goal.invariant-loop-busy
 invariant-loop-busy l = record {
   from : ℕ;
-  answered : AreBusy l.self.graph.now l.self.answers.now.busy.words l.point from l.next;
+  answered : AreBusy l.self.answers.now.chosen l.self.graph.now l.self.answers.now.busy.words l.point from l.next;
   put : l.remarks.items ≡ l.initial.remarks.items ++ placed_at l.point (map (λ e. VeryBusy e)
       (members ((knowledge_of l.self).busy.contains l.point) 0 (min (bits l.self.graph.now Busy) (64 * from))));
 }

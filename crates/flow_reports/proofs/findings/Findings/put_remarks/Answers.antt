@@ -6,13 +6,13 @@ use Rattle.flow_reports.specs.declared.remark.Remark.{Remark}
 use Rattle.flow_reports.proofs.knowledge.RemarkLines.{remarks_if}
 use Rattle.flow_reports.proofs.findings.Findings.put_remarks.Goals as goal
 
-pub returns-then-is_reached : goal.returns-then-is_reached
-returns-then-is_reached c =
+pub returns-then-reaches : goal.returns-then-reaches
+returns-then-reaches c =
     on_ok_weaker c.put_when_reached.result
     (λ put. put
     ∙ ap (λ (rs : List Remark). c.args.remarks.now.items ++ placed_at c.args.point rs)
     (sym (remarks_if c.args.self.now.graph.now (knowledge_of c.args.self.now) c.args.point c.in-Some.stmt.now true (sym c.in-Some.ensures.stmt)
-    (sym c.is_reached.ensures ∙ c.if-is_reached.true))))
+    (sym c.reaches.ensures ∙ c.if-reaches.true))))
     c.put_when_reached.ensures
 
 pub returns : goal.returns
@@ -21,5 +21,5 @@ returns c =
     (λ put. put
     ∙ ap (λ (rs : List Remark). c.args.remarks.now.items ++ placed_at c.args.point rs)
     (sym (remarks_if c.args.self.now.graph.now (knowledge_of c.args.self.now) c.args.point c.in-Some.stmt.now false (sym c.in-Some.ensures.stmt)
-    (sym c.is_reached.ensures ∙ c.if-is_reached.false))))
+    (sym c.reaches.ensures ∙ c.if-reaches.false))))
     c.put_if.ensures

@@ -8,7 +8,7 @@ use Rattle.flow_graph.specs.declared.analysis.Analysis.TheVariants.{Reach}
 use Rattle.tac_program.specs.Programs.{Program}
 use Rattle.flow_reports.specs.Listed.{placed_at}
 use Rattle.flow_reports.specs.Reports.{Knowledge, unset_at}
-use Rattle.flow_reports.specs.code.Answered.{query_for}
+use Rattle.flow_reports.specs.code.Chosen.{wanted_query}
 use Rattle.flow_reports.specs.code.Findings.{knowledge_of}
 use Rattle.flow_reports.specs.code.Operands.{AreRead}
 use Rattle.flow_reports.specs.declared.remark.Remark.{Remark}
@@ -28,7 +28,7 @@ has-unset-requires-clause-queried c =
     let here = c.requires.found.answers.queried c.args.point c.places-reads.result c.args.kind.now c.places-reads.ensures c.requires.kind in
     let x : ℕ = c.in-One.variable in
     let are : AreRead c.args.kind.now (x ∷ []) = record { rising = c.in-One.ensures.rising; read = c.in-One.ensures.read } in
-    first_read c.args.self.now.answers.now.replies.queries c.places-reads.result.reads c.args.point x c.args.kind.now [] here.reads are
+    first_read c.args.self.now.answers.now.chosen c.args.self.now.answers.now.replies.queries c.places-reads.result.reads c.args.point x c.args.kind.now [] here.reads are
 
 pub has-unset-requires-in-Two-clause-queried : goal.has-unset-requires-in-Two-clause-queried
 has-unset-requires-in-Two-clause-queried c =
@@ -36,7 +36,7 @@ has-unset-requires-in-Two-clause-queried c =
     let x : ℕ = c.in-Two.left in
     let y : ℕ = c.in-Two.right in
     let are : AreRead c.args.kind.now (x ∷ y ∷ []) = record { rising = c.in-Two.ensures.rising; read = c.in-Two.ensures.read } in
-    first_read c.args.self.now.answers.now.replies.queries c.places-reads.result.reads c.args.point x c.args.kind.now (y ∷ []) here.reads are
+    first_read c.args.self.now.answers.now.chosen c.args.self.now.answers.now.replies.queries c.places-reads.result.reads c.args.point x c.args.kind.now (y ∷ []) here.reads are
 
 pub overflow_add-reads : goal.overflow_add-reads
 overflow_add-reads c =
@@ -45,9 +45,9 @@ overflow_add-reads c =
     let y : ℕ = c.in-Two.right in
     let are : AreRead c.args.kind.now (x ∷ y ∷ []) = record { rising = c.in-Two.ensures.rising; read = c.in-Two.ensures.read } in
     let queries = c.args.self.now.answers.now.replies.queries in
-    let second = second_read queries c.places-reads.result.reads c.args.point x y c.args.kind.now here.reads are in
+    let second = second_read c.args.self.now.answers.now.chosen queries c.places-reads.result.reads c.args.point x y c.args.kind.now here.reads are in
     let inside : c.places-reads.result.reads + 1 < length queries =
-    slice_get_within queries (c.places-reads.result.reads + 1) (query_for Reach c.args.point y) second in
+    slice_get_within queries (c.places-reads.result.reads + 1) (wanted_query c.args.self.now.answers.now.chosen Reach c.args.point y) second in
     omega (arith, inside, c.requires.found.answers.few)
 
 pub has-unset-requires-in-Two-2-clause-queried : goal.has-unset-requires-in-Two-2-clause-queried
@@ -56,7 +56,7 @@ has-unset-requires-in-Two-2-clause-queried c =
     let x : ℕ = c.in-Two.left in
     let y : ℕ = c.in-Two.right in
     let are : AreRead c.args.kind.now (x ∷ y ∷ []) = record { rising = c.in-Two.ensures.rising; read = c.in-Two.ensures.read } in
-    second_read c.args.self.now.answers.now.replies.queries c.places-reads.result.reads c.args.point x y c.args.kind.now here.reads are
+    second_read c.args.self.now.answers.now.chosen c.args.self.now.answers.now.replies.queries c.places-reads.result.reads c.args.point x y c.args.kind.now here.reads are
 
 pub returns-in-None : goal.returns-in-None
 returns-in-None c =

@@ -1,4 +1,4 @@
-use Rattle.std.proofs.Common.{◌≡◌, ◌∙◌, ◌++◌, ℕ, Bool, true, false, List, [], Option, Some, None, if◌then◌else◌, append-nil, sym, ap}
+use Rattle.std.proofs.Common.{◌≡◌, ◌∙◌, ◌++◌, ℕ, Bool, true, false, List, [], Some, None, if◌then◌else◌, append-nil, sym, ap}
 use Rattle.std.specs.Prelude.{option_map}
 use Rattle.std.proofs.lemmas.Result.{on_ok_weaker}
 use Rattle.flow_graph.specs.Points.{statement_at}
@@ -23,18 +23,18 @@ uses_if program known point s reached at is =
     at
     ∙ ap (λ b. if b then uses_of point (unset_at program known point) else []) is
 
-pub returns-then-is_reached-clause-put : goal.returns-then-is_reached-clause-put
-returns-then-is_reached-clause-put c =
+pub returns-then-reaches-clause-put : goal.returns-then-reaches-clause-put
+returns-then-reaches-clause-put c =
     on_ok_weaker c.put_uses.result
     (λ put. put
     ∙ ap (λ (us : List UnsetUse). c.args.uses.now.items ++ us)
     (sym (uses_if c.args.self.now.graph.now (knowledge_of c.args.self.now) c.args.point c.in-Some.stmt.now true (sym c.in-Some.ensures.stmt)
-    (sym c.is_reached.ensures ∙ c.if-is_reached.true))))
+    (sym c.reaches.ensures ∙ c.if-reaches.true))))
     c.put_uses.ensures.put
 
 pub returns-clause-put : goal.returns-clause-put
 returns-clause-put c =
     sym (ap (λ (us : List UnsetUse). c.args.uses.now.items ++ us)
     (uses_if c.args.self.now.graph.now (knowledge_of c.args.self.now) c.args.point c.in-Some.stmt.now false (sym c.in-Some.ensures.stmt)
-    (sym c.is_reached.ensures ∙ c.if-is_reached.false))
+    (sym c.reaches.ensures ∙ c.if-reaches.false))
     ∙ append-nil c.args.uses.now.items)

@@ -2,9 +2,10 @@ use Rattle.std.proofs.Common.{◌≡◌, ◌∙◌, ℕ, ◌+◌, ◌-◌, ◌�
 use Rattle.std.specs.List.{range_with_len}
 use Rattle.std.proofs.lemmas.Grind.{flat_map-append}
 use Rattle.flow_texts.proofs.sets.RangeLines.{range_split}
-use Rattle.flow_reports.specs.Uses.{unset_uses, unset_uses_at}
+use Rattle.flow_reports.specs.Uses.{unset_uses_at}
 use Rattle.flow_reports.specs.code.Findings.{knowledge_of}
 use Rattle.flow_reports.specs.declared.unset.UnsetUse.{UnsetUse}
+use Rattle.flow_reports.proofs.knowledge.KnownReports.{chosen_findings}
 use Rattle.flow_reports.proofs.findings.Findings.unset_uses.Goals as goal
 
 -- a point more
@@ -27,3 +28,6 @@ loop-point-preserved c =
           ∙ one_more at c.args.first c.loop-point.point c.loop-point.auto.point,
       omega (arith, c.in_ok-put_uses_at.ensures.few, c.loop-point.invariant.1, c.loop-point.auto.point),
     )
+
+pub put_uses_at-requires-clause-found : goal.put_uses_at-requires-clause-found
+put_uses_at-requires-clause-found c = chosen_findings c.args.self.now c.requires.found

@@ -9,7 +9,7 @@ use Rattle.flow_reports.proofs.findings.Findings.write_busy.Goals as goal
 pub returns : goal.returns
 returns g c =
     let program : Program = c.args.self.now.graph.now in
-    let text : ℕ → List ℕ = λ e. g.F.RemarkForm.text c.args.form.now program c.args.point (VeryBusy e) in
+    let text : ℕ → List ℕ = λ e. g.F.ChosenForm.text c.args.form.now program c.args.point (VeryBusy e) in
     takes_as _ _ _ _ c.write_busy_words.ensures
     (sym (ap (flat_map text) (busy_is program (knowledge_of c.args.self.now) c.args.point c.args.kind.now true c.requires.kind
     (sym c.tells_busy.ensures ∙ c.if-not-tells_busy.false))))
@@ -17,7 +17,7 @@ returns g c =
 pub returns-then-not-tells_busy : goal.returns-then-not-tells_busy
 returns-then-not-tells_busy g c =
     let program : Program = c.args.self.now.graph.now in
-    let text : ℕ → List ℕ = λ e. g.F.RemarkForm.text c.args.form.now program c.args.point (VeryBusy e) in
+    let text : ℕ → List ℕ = λ e. g.F.ChosenForm.text c.args.form.now program c.args.point (VeryBusy e) in
     takes_as _ _ _ _ (takes_nothing _)
     (sym (ap (flat_map text) (busy_is program (knowledge_of c.args.self.now) c.args.point c.args.kind.now false c.requires.kind
     (sym c.tells_busy.ensures ∙ c.if-not-tells_busy.true))))

@@ -12,7 +12,7 @@ use Rattle.flow_reports.proofs.findings.Findings.write_busy_word.Goals as goal
 
 pub loop-place-init : goal.loop-place-init
 loop-place-init g c =
-    let text : ℕ → List ℕ = λ e. g.F.RemarkForm.text c.args.form.now c.args.self.now.graph.now c.args.point (VeryBusy e) in
+    let text : ℕ → List ℕ = λ e. g.F.ChosenForm.text c.args.form.now c.args.self.now.graph.now c.args.point (VeryBusy e) in
     let test : ℕ → Bool = (knowledge_of c.args.self.now).busy.contains c.args.point in
     let at : Pieces _ → Outlet = outlet g.K.Sink in
     let place : ℕ = c.next_one-place.result in
@@ -28,7 +28,7 @@ loop-place-init g c =
 
 pub loop-place-preserved : goal.loop-place-preserved
 loop-place-preserved g c =
-    let text : ℕ → List ℕ = λ e. g.F.RemarkForm.text c.args.form.now c.args.self.now.graph.now c.args.point (VeryBusy e) in
+    let text : ℕ → List ℕ = λ e. g.F.ChosenForm.text c.args.form.now c.args.self.now.graph.now c.args.point (VeryBusy e) in
     let test : ℕ → Bool = (knowledge_of c.args.self.now).busy.contains c.args.point in
     let place : ℕ = c.loop-place.place in
     let next : ℕ = c.next_one-place-in-loop-place.result in
@@ -46,7 +46,7 @@ loop-place-preserved g c =
 
 pub returns : goal.returns
 returns g c =
-    let text : ℕ → List ℕ = λ e. g.F.RemarkForm.text c.args.form.now c.args.self.now.graph.now c.args.point (VeryBusy e) in
+    let text : ℕ → List ℕ = λ e. g.F.ChosenForm.text c.args.form.now c.args.self.now.graph.now c.args.point (VeryBusy e) in
     let width : ℕ = c.args.word.end - c.args.word.first in
     let all : min width c.loop-place.place ≡ width = omega (arith, c.loop-place-test.false) in
     takes_as _ _ _ _ c.loop-place.invariant.writes

@@ -12,7 +12,7 @@ invariant-loop-place g l = record {
   within : l.place ≤ 64;
   one : l.place < 64 → has_bit l.fn.word.ones l.place ≡ true;
   writes : Writes g.K.Sink l.fn.out l.out
-      (texts_where (λ e. g.F.RemarkForm.text l.form l.self.graph.now l.point (VeryBusy e)) ((knowledge_of l.self).busy.contains l.point)
+      (texts_where (λ e. g.F.ChosenForm.text l.form l.self.graph.now l.point (VeryBusy e)) ((knowledge_of l.self).busy.contains l.point)
       (range_with_len l.fn.word.first (min l.width l.place)));
 }
 

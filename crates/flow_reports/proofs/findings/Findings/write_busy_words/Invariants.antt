@@ -12,9 +12,9 @@ use Rattle.flow_reports.proofs.findings.Findings.write_busy_words.Given as goal
 abbrev pub invariant-loop-busy : goal.invariant-loop-busy
 invariant-loop-busy g l = record {
   from : ℕ;
-  answered : AreBusy l.self.graph.now l.self.answers.now.busy.words l.point from l.next;
+  answered : AreBusy l.self.answers.now.chosen l.self.graph.now l.self.answers.now.busy.words l.point from l.next;
   writes : Writes g.K.Sink l.fn.out l.out
-      (texts_where (λ e. g.F.RemarkForm.text l.form l.self.graph.now l.point (VeryBusy e)) ((knowledge_of l.self).busy.contains l.point)
+      (texts_where (λ e. g.F.ChosenForm.text l.form l.self.graph.now l.point (VeryBusy e)) ((knowledge_of l.self).busy.contains l.point)
       (range_with_len 0 (min (bits l.self.graph.now Busy) (64 * from))));
 }
 

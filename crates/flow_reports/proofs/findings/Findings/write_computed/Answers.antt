@@ -10,7 +10,7 @@ pub returns : goal.returns
 returns g c =
     let program : Program = c.args.self.now.graph.now in
     let bit : ℕ = c.in-Some.bit in
-    let text : ℕ → List ℕ = λ e. g.F.RemarkForm.text c.args.form.now program c.args.point (Computed e) in
+    let text : ℕ → List ℕ = λ e. g.F.ChosenForm.text c.args.form.now program c.args.point (Computed e) in
     takes_as _ _ _ _ c.write_remark.ensures
     (sym (ap (flat_map text) (computed_is program (knowledge_of c.args.self.now) c.args.point bit (sym c.in-Some.ensures) (sym c.is_computed.ensures
     ∙ c.if-not-is_computed.false))

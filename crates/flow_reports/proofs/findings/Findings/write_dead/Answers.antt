@@ -25,7 +25,7 @@ returns g c =
     let program : Program = c.args.self.now.graph.now in
     let point : ℕ = c.args.point in
     let x : ℕ = c.in-Some.variable in
-    let text : ℕ → List ℕ = λ v. g.F.RemarkForm.text c.args.form.now program point (Dead v) in
+    let text : ℕ → List ℕ = λ v. g.F.ChosenForm.text c.args.form.now program point (Dead v) in
     takes_as _ _ _ _ c.write_remark.ensures
     (sym (ap (flat_map text) (dead_is program (knowledge_of c.args.self.now) point x c.args.kind.now true c.requires.kind (sym c.in-Some.ensures)
     (sym c.is_dead_after.ensures ∙ c.if-not-is_dead_after.false))

@@ -1,25 +1,5 @@
-use Rattle.std.proofs.Common.{List, ℕ, true, false, flat_map, append-nil, ap, ◌∙◌, sym}
-use Rattle.tac_program.specs.Programs.{Program}
-use Rattle.flow_reports.specs.code.Findings.{knowledge_of}
-use Rattle.flow_reports.specs.declared.remark.Remark.{Remark}
-use Rattle.flow_reports.specs.declared.remark.Remark.TheVariants.{NeverReached}
-use Rattle.flow_reports.proofs.knowledge.RemarkLines.{remarks_if}
-use Rattle.text_pieces.proofs.sinks.Taking.{takes_as}
+use Rattle.flow_reports.proofs.knowledge.KnownReports.{chosen_findings}
 use Rattle.flow_reports.proofs.findings.Findings.write_remarks.Goals as goal
 
-pub returns-then-is_reached : goal.returns-then-is_reached
-returns-then-is_reached g c =
-    let program : Program = c.args.self.now.graph.now in
-    let text : Remark → List ℕ = g.F.RemarkForm.text c.args.form.now program c.args.point in
-    takes_as _ _ _ _ c.write_when_reached.ensures
-    (ap (flat_map text) (sym (remarks_if program (knowledge_of c.args.self.now) c.args.point c.in-Some.stmt.now true (sym c.in-Some.ensures.stmt)
-    (sym c.is_reached.ensures ∙ c.if-is_reached.true))))
-
-pub returns : goal.returns
-returns g c =
-    let program : Program = c.args.self.now.graph.now in
-    let text : Remark → List ℕ = g.F.RemarkForm.text c.args.form.now program c.args.point in
-    takes_as _ _ _ _ c.write_remark.ensures
-    (sym (ap (flat_map text) (remarks_if program (knowledge_of c.args.self.now) c.args.point c.in-Some.stmt.now false (sym c.in-Some.ensures.stmt)
-    (sym c.is_reached.ensures ∙ c.if-is_reached.false))
-    ∙ append-nil (text NeverReached)))
+pub write_chosen_remarks-requires-clause-found : goal.write_chosen_remarks-requires-clause-found
+write_chosen_remarks-requires-clause-found g c = chosen_findings c.args.self.now c.requires.found

@@ -10,4 +10,4 @@ returns g c =
     takes_as _ _ _ _
     (takes_then _ _ _ _ _ (takes_then _ _ _ _ _ (takes_then _ _ _ _ _ c.write_unset.ensures c.write_computed.ensures)
     c.write_busy.ensures) c.write_dead.ensures)
-    (remarks_are program (knowledge_of c.args.self.now) c.args.point (g.F.RemarkForm.text c.args.form.now program c.args.point))
+    (remarks_are program (knowledge_of c.args.self.now) c.args.point (g.F.ChosenForm.text c.args.form.now program c.args.point))

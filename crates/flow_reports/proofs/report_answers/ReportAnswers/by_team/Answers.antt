@@ -2,7 +2,8 @@ use Rattle.std.proofs.Common.{◌≡◌, ◌∙◌, List, sym, subst}
 use Rattle.std.specs.Prelude.{MatchOption}
 use Rattle.flow_queries.specs.Queries.{AreAnswers, AreQueriesOf}
 use Rattle.flow_queries.specs.declared.query.Query.{Query}
-use Rattle.flow_reports.specs.code.Reported.{IsNextRound, words_left}
+use Rattle.flow_reports.specs.code.Reported.{IsNextRoundOf, TellChosen, TellRestOf, words_left}
+use Rattle.flow_reports.specs.declared.chosen_bits.ChosenBits.{ChosenBits}
 use Rattle.tac_program.specs.Programs.{Program}
 use Rattle.flow_reports.proofs.report_answers.ReportAnswers.by_team.Goals as goal
 
@@ -11,24 +12,47 @@ answer-requires-clause-queries g c = λ κs lives. subst (λ (p : Program). AreQ
 
 pub answer-requires-in-Some-clause-queries : goal.answer-requires-in-Some-clause-queries
 answer-requires-in-Some-clause-queries g c = λ κs lives.
-    let next : IsNextRound c.args.graph.now c.loop-rounds.rounds c.in-Some.queries.items =
-    subst (λ o. MatchOption o (words_left c.loop-rounds.rounds ≡ 0) (λ queries. IsNextRound c.args.graph.now c.loop-rounds.rounds queries.items))
+    let next : IsNextRoundOf c.loop-rounds.rounds.rounds.chosen c.args.graph.now c.loop-rounds.rounds c.in-Some.queries.items =
+    subst (λ o. MatchOption o (words_left c.loop-rounds.rounds ≡ 0) (λ queries. IsNextRoundOf c.loop-rounds.rounds.rounds.chosen c.args.graph.now c.loop-rounds.rounds queries.items))
     c.in-Some.is c.in_ok-queries.ensures in
     subst (λ (p : Program). AreQueriesOf p c.in-Some.queries.items) (sym c.loop-rounds.invariant.solvers) next.queries
 
-pub put-requires-in-Some-clause-answers : goal.put-requires-in-Some-clause-answers
-put-requires-in-Some-clause-answers g c =
+pub put_round-requires-clause-answers : goal.put_round-requires-clause-answers
+put_round-requires-clause-answers g c =
     subst (λ (p : Program). AreAnswers p c.in_ok-answers-2.answers) c.loop-rounds.invariant.solvers c.in_ok-answers-2.ensures.answers
 
-pub put-requires-in-Some-clause-round : goal.put-requires-in-Some-clause-round
-put-requires-in-Some-clause-round g c =
-    let next : IsNextRound c.args.graph.now c.loop-rounds.rounds c.in-Some.queries.items =
-    subst (λ o. MatchOption o (words_left c.loop-rounds.rounds ≡ 0) (λ queries. IsNextRound c.args.graph.now c.loop-rounds.rounds queries.items))
+pub put_round-requires-clause-round : goal.put_round-requires-clause-round
+put_round-requires-clause-round g c =
+    let next : IsNextRoundOf c.loop-rounds.rounds.rounds.chosen c.args.graph.now c.loop-rounds.rounds c.in-Some.queries.items =
+    subst (λ o. MatchOption o (words_left c.loop-rounds.rounds ≡ 0) (λ queries. IsNextRoundOf c.loop-rounds.rounds.rounds.chosen c.args.graph.now c.loop-rounds.rounds queries.items))
     c.in-Some.is c.in_ok-queries.ensures in
-    subst (λ (queries : List Query). IsNextRound c.args.graph.now c.loop-rounds.rounds queries) (sym c.in_ok-answers-2.ensures.queries) next
+    subst (λ (queries : List Query). IsNextRoundOf c.loop-rounds.rounds.rounds.chosen c.args.graph.now c.loop-rounds.rounds queries) (sym c.in_ok-answers-2.ensures.queries) next
+
+pub next_chosen-requires : goal.next_chosen-requires
+next_chosen-requires g c =
+    let inv = c.loop-rounds.invariant in
+    subst (λ (chosen : ChosenBits). TellRestOf chosen c.args.graph.now c.loop-rounds.rounds) (sym inv.rest.rounds.same_bits) inv.rest
+
+pub put_round-requires-clause-rest : goal.put_round-requires-clause-rest
+put_round-requires-clause-rest g c =
+    let inv = c.loop-rounds.invariant in
+    subst (λ (chosen : ChosenBits). TellRestOf chosen c.args.graph.now c.loop-rounds.rounds) (sym inv.rest.rounds.same_bits) inv.rest
 
 pub loop-rounds-preserved : goal.loop-rounds-preserved
-loop-rounds-preserved g c = record {
-  rest = c.in_ok-put.ensures.rest;
-  solvers = c.in_ok-answers-2.ensures.solvers ∙ c.loop-rounds.invariant.solvers;
-}
+loop-rounds-preserved g c =
+    let inv = c.loop-rounds.invariant in
+    record {
+      rest = subst (λ (chosen : ChosenBits). TellRestOf chosen c.args.graph.now c.put_round.new.self) inv.rest.rounds.same_bits
+          c.in_ok-put_round.ensures.rest;
+      solvers = c.in_ok-answers-2.ensures.solvers ∙ inv.solvers;
+    }
+
+pub done_chosen-requires-clause-rest : goal.done_chosen-requires-clause-rest
+done_chosen-requires-clause-rest g c =
+    let inv = c.loop-rounds.invariant in
+    subst (λ (chosen : ChosenBits). TellRestOf chosen c.args.graph.now c.loop-rounds.rounds) (sym inv.rest.rounds.same_bits) inv.rest
+
+pub returns : goal.returns
+returns g c =
+    let inv = c.loop-rounds.invariant in
+    subst (λ (chosen : ChosenBits). TellChosen chosen c.args.graph.now c.done_chosen.result) inv.rest.rounds.same_bits c.done_chosen.ensures

@@ -1,25 +1,15 @@
-use Rattle.std.proofs.Common.{◌≡◌, ℕ, List, length, take, sym, ap, subst, arith}
-use Rattle.std.proofs.lemmas.List.{length-take}
-use Rattle.flow_queries.specs.declared.query.Query.{Query}
-use Rattle.flow_reports.specs.code.Busy.{AreRounds}
-use Rattle.flow_reports.specs.code.Reported.{AreQueried}
-use Rattle.tac_program.specs.Programs.{Program}
+use Rattle.std.proofs.Common.{sym, subst}
+use Rattle.std.specs.Prelude.{IfOk}
+use Rattle.flow_reports.specs.code.Reported.{IsFirstRoundOf, TellRestOf}
+use Rattle.flow_reports.specs.declared.chosen_bits.ChosenBits.{ChosenBits}
 use Rattle.flow_reports.proofs.report_rounds.FirstRound.put.Goals as goal
+
+pub put_chosen-requires-clause-first : goal.put_chosen-requires-clause-first
+put_chosen-requires-clause-first c =
+    subst (λ (chosen : ChosenBits). IsFirstRoundOf chosen c.args.graph.now c.args.answers.queries c.args.self) (sym c.requires.first.rounds.same_bits)
+    c.requires.first
 
 pub returns : goal.returns
 returns c =
-    let program : Program = c.args.graph.now in
-    let first = c.requires.first in
-    let places = c.args.self.places.items in
-    let queries : List Query = c.args.answers.queries in
-    let left = c.put.new.self in
-    let are : AreRounds program c.args.self.rounds.tests.items left = c.in_ok-put.ensures.rounds in
-    let count : length c.truncate.new.self.queries ≡ length (take c.args.self.before queries) = ap length c.in_ok-truncate.ensures.queries in
-    record {
-      few = omega (arith, count, length-take c.args.self.before queries, first.few);
-      answers = c.in_ok-truncate.ensures.answers program c.requires.answers;
-      count = first.count;
-      queried = subst (λ (tests : List ℕ). AreQueried program c.truncate.new.self.queries tests places) (sym are.same)
-          (subst (λ (all : List Query). AreQueried program all c.args.self.rounds.tests.items places) (sym c.in_ok-truncate.ensures.queries) first.queried);
-      rounds = subst (λ (tests : List ℕ). AreRounds program tests left) (sym are.same) are;
-    }
+    subst (λ (chosen : ChosenBits). IfOk c.put_chosen.result (TellRestOf chosen c.args.graph.now)) c.requires.first.rounds.same_bits
+    c.put_chosen.ensures

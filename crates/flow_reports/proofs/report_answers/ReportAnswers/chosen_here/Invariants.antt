@@ -1,10 +1,10 @@
 use Rattle.std.proofs.Common.{◌≡◌}
-use Rattle.flow_reports.specs.code.Reported.{TellRest, words_left}
-use Rattle.flow_reports.proofs.report_answers.ReportAnswers.answered_here.Given as goal
+use Rattle.flow_reports.specs.code.Reported.{TellRestOf, words_left}
+use Rattle.flow_reports.proofs.report_answers.ReportAnswers.chosen_here.Given as goal
 
 abbrev pub invariant-loop-rounds : goal.invariant-loop-rounds
 invariant-loop-rounds l = record {
-  rest : TellRest l.graph l.rounds;
+  rest : TellRestOf l.fn.chosen l.graph l.rounds;
   solvers : l.solvers ≡ l.graph;
 }
 
