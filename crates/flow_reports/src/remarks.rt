@@ -424,8 +424,7 @@ impl Findings<'_> {
         self.write_chosen_remarks(&WholeForm { form }, out, point);
     }
 
-    /// Writes the remarks of a point, each in that form, of findings that may be of chosen bits alone: what bits that are not chosen would tell is
-    /// read as what [`knowledge_of`] says, which is of chosen bits alone what is so.
+    /// The same of findings that may be of chosen bits alone. What they say of other bits need not be so: a form leaves such remarks out.
     ///
     /// The conditions: what was found is such as the form is for, of one program, which has the point.
     pub fn write_chosen_remarks<F: ChosenForm, K: Sink>(
