@@ -9,4 +9,4 @@ pub returns-then-has_site : goal.returns-then-has_site
 returns-then-has_site c =
     let caller : c.number_at-caller.result < length c.args.tree.now = omega (arith, c.if-caller-tree.false) in
     let way : c.number_at-way.result < length c.args.ways.now = omega (arith, c.if-way-ways.false) in
-    by_site c.number_at-caller.result c.number_at-way.result caller way (c.has_site.ensures c.if-has_site.true)
+    by_site c.number_at-caller.result c.number_at-way.result caller way (c.has_site.ensures.0 c.if-has_site.true)

@@ -6,4 +6,4 @@ pub returns-then-has_call : goal.returns-then-has_call
 returns-then-has_call c =
     let before : c.args.before < length c.args.ways.now = omega (arith, c.if-before-ways.false) in
     let exit : c.args.exit < length c.args.ways.now = omega (arith, c.if-exit-ways.false) in
-    by_call c.args.before c.args.exit before exit (c.has_call.ensures c.if-has_call.true)
+    by_call c.args.before c.args.exit before exit (c.has_call.ensures.0 c.if-has_call.true)
