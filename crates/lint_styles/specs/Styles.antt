@@ -37,6 +37,10 @@ hex_digit n = if nat_lt n 10 then 48 + n else 87 + n
 abbrev pub shown_byte : ℕ → List ℕ
 shown_byte b = if is_printed b then b ∷ [] else 92 ∷ 120 ∷ hex_digit (b / 16) ∷ hex_digit (b % 16) ∷ []
 
+-- Bytes as they are shown: a name that is shown so cannot change a terminal.
+abbrev pub shown : List ℕ → List ℕ
+shown bytes = flat_map shown_byte bytes
+
 -- In a line of the source a tab stands for itself too.
 abbrev pub source_byte : ℕ → List ℕ
 source_byte b = if nat_eq b 9 then 9 ∷ [] else shown_byte b

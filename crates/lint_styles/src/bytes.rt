@@ -1,11 +1,13 @@
 // Bytes of a text, as they are shown.
 
-ghost use Rattle.std.specs.Prelude.{◌≡◌, ◌<◌, decimal, flat_map};
-ghost use Rattle.lint_styles.specs.Styles.{below_byte, hex_digit as digit_of, is_printed as printed, shown_byte, source_byte};
+ghost use Rattle.std.specs.Prelude.{◌≡◌, ◌<◌, decimal, flat_map, IfOk};
+ghost use Rattle.lint_styles.specs.Styles.{below_byte, hex_digit as digit_of, is_printed as printed, shown, shown_byte, source_byte};
 ghost use Rattle.text_pieces.specs.Pieces.{CanWrite, Writes};
 
+use crate::OutOfMemory;
 use itoa::Buffer;
-use text_pieces::{Pieces, Sink};
+use std::alloc::Global;
+use text_pieces::{Pieces, Sink, Text, whole_text};
 
 /// The byte of a tab.
 const TAB: u8 = b'\t';
@@ -38,11 +40,32 @@ fn write_byte<K: Sink>(out: &mut Pieces<'_, K>, byte: u8)
 /// Writes bytes, or what stands for them.
 pub fn write_shown<K: Sink>(out: &mut Pieces<'_, K>, bytes: &[u8])
     requires { CanWrite K.Sink out.old }
-    ensures { Writes K.Sink out.old out.new (flat_map shown_byte bytes.now) }
+    ensures { Writes K.Sink out.old out.new (shown bytes.now) }
 {
     for byte in bytes {
         write_byte(out, *byte);
     }
+}
+
+// Bytes, or what stands for them.
+#[derive(Clone, Copy)]
+struct ShownText<'a>(&'a [u8]);
+
+impl<'a> Text for ShownText<'a> {
+    ghost use Rattle.lint_styles.specs.Styles.{shown};
+
+    ghost bytes = { λ text. shown text.0.now };
+
+    fn write<K: Sink>(&self, out: &mut Pieces<'_, K>) {
+        write_shown(out, self.0);
+    }
+}
+
+/// Bytes, or what stands for them, made whole. Fails only where memory runs out.
+pub fn shown_bytes(alloc: Global, bytes: &[u8]) -> Result<Vec<u8>, OutOfMemory>
+    ensures { IfOk result (λ whole. whole.items ≡ shown bytes.now) }
+{
+    whole_text(alloc, &ShownText(bytes))
 }
 
 // Writes a byte of a line of the source, or what stands for it.

@@ -1,3 +1,5 @@
+pub mod Parts
 mod Placed
 mod Runs
+mod Scanned
 mod Texts

@@ -19,3 +19,7 @@ early_text = codes "proc main\nx = 1\nreturn\nprint x\nx = 2\nend\n"
 -- a statement that stands behind a blank and a label
 abbrev pub labelled_text : List ℕ
 labelled_text = codes "proc main\n L: x = 1\nend\n"
+
+-- a procedure with no statement, behind an empty line and blanks
+abbrev pub empty_text : List ℕ
+empty_text = codes "proc main\nend\n\n  proc p\nend\n"

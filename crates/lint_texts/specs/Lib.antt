@@ -1,3 +1,4 @@
 pub mod Examples
 pub mod LintTexts
+pub mod Starts
 pub mod code

@@ -1,9 +1,9 @@
 -- The text of what a linter tells of a program.
 use Rattle.std.specs.Prelude.{◌≡◌, ◌↔◌, ℕ, ◌+◌, ◌-◌, ◌<◌, Bool, true, false, not, ◌&&◌, List, [], ◌++◌, flat_map, Option, Some, None}
-use Rattle.std.specs.Prelude.{if◌then◌else◌, codes, decimal, count_by, nat_eq, nat_lt, option_map, take, unwrap_or}
+use Rattle.std.specs.Prelude.{if◌then◌else◌, codes, decimal, count_by, nat_eq, nat_lt, take}
 use Rattle.std.specs.List.{prefix_len, range_with_len}
 use Rattle.flow_graph.specs.Analyses.{HasPathAt}
-use Rattle.flow_graph.specs.Points.{kind_at, point_count, procedure_at, statement_at}
+use Rattle.flow_graph.specs.Points.{kind_at, point_count, procedure_at}
 use Rattle.flow_graph.specs.declared.analysis.Analysis.TheVariants.{Reach, Avail, Busy}
 use Rattle.flow_lints.specs.Lints.{IsLinted}
 use Rattle.flow_lints.specs.declared.lint.Lint.{Lint}
@@ -13,11 +13,13 @@ use Rattle.flow_lints.specs.declared.lint.PlacedLint.{PlacedLint}
 use Rattle.flow_reports.specs.declared.remark.Remark.{Remark}
 use Rattle.flow_reports.specs.declared.remark.Remark.TheVariants.{NeverReached, Unset, Computed, VeryBusy, Dead}
 use Rattle.flow_texts.specs.Tables.{bit_text, line_at, variable_text}
-use Rattle.lint_styles.specs.Styles.{painted, source_at}
+use Rattle.lint_styles.specs.Styles.{painted, shown, source_at}
 use Rattle.lint_styles.specs.declared.style.Hue.TheVariants as hue
 use Rattle.lint_styles.specs.declared.style.Style.{Style}
+use Rattle.lint_texts.specs.Starts.{stands_at, told_at}
 use Rattle.lint_texts.specs.declared.file.File.{File}
 use Rattle.lint_texts.specs.declared.kinds.Kinds.{Kinds}
+use Rattle.lint_texts.specs.declared.starts.Start.{Start}
 use Rattle.lint_texts.specs.declared.telling.Telling.{Telling}
 use Rattle.tac_lines.specs.Text.{column_after}
 use Rattle.tac_program.specs.Names.{name_at}
@@ -94,70 +96,71 @@ pub record FileText : Type 0 where
 abbrev pub file_text : File → FileText
 file_text file = record { name = file.name.now; text = file.text.now }
 
--- in which column of its line the statement at a point begins, from 1; 1 where there is none
-abbrev pub start_at : Program → ℕ → ℕ
-start_at program point = unwrap_or (option_map (λ s. s.span.start) (statement_at program point)) 0
-
-abbrev pub column_at : List ℕ → Program → ℕ → ℕ
-column_at text program point = column_after (take (start_at program point) text)
+-- in which column of its line a place of a text stands, from 1
+abbrev pub column_at : List ℕ → ℕ → ℕ
+column_at text place = column_after (take place text)
 
 -- `FILE:LINE:COLUMN: `
-abbrev pub place_words : FileText → Program → ℕ → List ℕ
-place_words file program point =
-    file.name ++ codes ":" ++ decimal (line_at program point) ++ codes ":" ++ decimal (column_at file.text program point) ++ codes ": "
+abbrev pub place_words : FileText → Start → List ℕ
+place_words file start =
+    shown file.name ++ codes ":" ++ decimal start.line ++ codes ":" ++ decimal (column_at file.text start.place) ++ codes ": "
 
 -- `FILE:LINE:COLUMN: KIND: WORDS`
 abbrev pub lint_line : FileText → Style → Program → (ℕ → Bool) → PlacedLint → List ℕ
 lint_line file style program reached placed =
-    place_words file program placed.point ++ painted style hue.Remark (kind_text placed.lint) ++ codes ": "
+    place_words file (told_at file.text program placed.point) ++ painted style hue.Remark (kind_text placed.lint) ++ codes ": "
     ++ lint_words program reached placed.point placed.lint ++ codes "\n"
 
--- the line of the source in which the statement at a point begins, where there is one
-abbrev pub source_line : FileText → Style → Program → ℕ → List ℕ
-source_line file style program point = elim (statement_at program point) [
-  | Some statement ↦ source_at style file.text statement.span.line statement.span.start
-  | None ↦ []
-]
+-- the line of the source in which it is told
+abbrev pub source_line : FileText → Style → Start → List ℕ
+source_line file style start = source_at style file.text start.line start.place
 
 -- the lines of a lint that is told
 abbrev pub told_lines : FileText → Telling → Program → (ℕ → Bool) → PlacedLint → List ℕ
 told_lines file telling program reached placed =
     if is_told telling program placed
-    then lint_line file telling.style program reached placed ++ source_line file telling.style program placed.point
+    then lint_line file telling.style program reached placed ++ source_line file telling.style (told_at file.text program placed.point)
     else []
 
 abbrev pub untold_words : ℕ → List ℕ
 untold_words count = if nat_eq count 1 then codes "1 dead assignment is not told" else decimal count ++ codes " dead assignments are not told"
 
-abbrev pub endless_words : Program → Option ℕ → List ℕ
-endless_words program (Some point) = codes " (from line " ++ decimal (line_at program point) ++ codes " on)"
-endless_words program None = []
+abbrev pub endless_words : List ℕ → Program → Option ℕ → List ℕ
+endless_words text program (Some point) = codes " (from line " ++ decimal (stands_at text program point).line ++ codes " on)"
+endless_words text program None = []
 
 -- `FILE: note: N dead assignments are not told, since the program may never end (from line L on)`
-abbrev pub untold_line : List ℕ → Style → Program → Linted → List ℕ
+abbrev pub untold_line : FileText → Style → Program → Linted → List ℕ
 untold_line file style program linted =
-    file ++ codes ": " ++ painted style hue.Note (codes "note") ++ codes ": " ++ untold_words linted.left_out
-    ++ codes ", since the program may never end" ++ endless_words program linted.endless ++ codes "\n"
+    shown file.name ++ codes ": " ++ painted style hue.Note (codes "note") ++ codes ": " ++ untold_words linted.left_out
+    ++ codes ", since the program may never end" ++ endless_words file.text program linted.endless ++ codes "\n"
 
--- that line, where dead assignments are wanted and some are left out
-abbrev pub wanted_note : List ℕ → Telling → Program → Linted → List ℕ
-wanted_note file telling program linted =
-    if telling.kinds.dead && nat_lt 0 linted.left_out then untold_line file telling.style program linted else []
+-- whether dead assignments are wanted and some are left out
+abbrev pub has_untold : Telling → Linted → Bool
+has_untold telling linted = telling.kinds.dead && nat_lt 0 linted.left_out
+
+-- that line, where that is so
+abbrev pub wanted_note : FileText → Telling → Program → Linted → List ℕ
+wanted_note file telling program linted = if has_untold telling linted then untold_line file telling.style program linted else []
 
 abbrev pub remark_count : ℕ → List ℕ
 remark_count count = if nat_eq count 0 then codes "no remarks" else if nat_eq count 1 then codes "1 remark" else decimal count ++ codes " remarks"
 
 -- `FILE: N remarks`
 abbrev pub count_line : List ℕ → ℕ → List ℕ
-count_line file count = file ++ codes ": " ++ remark_count count ++ codes "\n"
+count_line file count = shown file ++ codes ": " ++ remark_count count ++ codes "\n"
+
+-- how many lints are told
+abbrev pub told_count : Telling → Program → Linted → ℕ
+told_count telling program linted = count_by (is_told telling program) linted.lints.items
 
 -- The text of a file: the lines of each lint that is told, in their order, the note on dead assignments, which is of the whole file, and how
 -- many lints are told.
 abbrev pub lint_text_of : FileText → Telling → Program → (ℕ → Bool) → Linted → List ℕ
 lint_text_of file telling program reached linted =
     flat_map (told_lines file telling program reached) linted.lints.items
-    ++ wanted_note file.name telling program linted
-    ++ count_line file.name (count_by (is_told telling program) linted.lints.items)
+    ++ wanted_note file telling program linted
+    ++ count_line file.name (told_count telling program linted)
 
 -- at each point of the program: whether some valid path leads there
 abbrev pub TellReached : Program → (ℕ → Bool) → Type 0

@@ -76,7 +76,7 @@ fn remark_kind(remark: Remark) -> &'static [u8]
 }
 
 /// What a lint's kind is called.
-pub(crate) fn kind_name(lint: Lint) -> &'static [u8]
+pub fn kind_name(lint: Lint) -> &'static [u8]
     ensures { result.now ≡ kind_text lint }
 {
     match lint {

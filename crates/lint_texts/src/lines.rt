@@ -1,24 +1,28 @@
 // The lines of lints.
 
-ghost use Rattle.std.specs.Prelude.{◌≡◌, ◌<◌, ◌-◌, ◌^◌, ◌++◌, codes, count_by, decimal, flat_map, length};
+ghost use Rattle.std.specs.Prelude.{◌≡◌, ◌<◌, ◌-◌, ◌^◌, ◌++◌, codes, decimal, flat_map, length};
 ghost use Rattle.flow_graph.specs.Points.{point_count};
 ghost use Rattle.flow_graph.specs.declared.analysis.Analysis.TheVariants.{Avail};
 ghost use Rattle.flow_texts.specs.Tables.{bit_text, variable_text};
-ghost use Rattle.lint_texts.specs.LintTexts.{column_at, count_line, endless_words, file_text, is_told, is_unreached as is_unreached_at, last_unreached};
-ghost use Rattle.lint_texts.specs.LintTexts.{lint_line, lint_text_of, lint_words, place_words, remark_count, remark_words, source_line, start_at};
-ghost use Rattle.lint_texts.specs.LintTexts.{told_lines, unreached_words, untold_line, untold_words, wanted_note};
-ghost use Rattle.lint_texts.specs.code.Lines.{AreLintLines, IsPointIn, reached_in};
+ghost use Rattle.lint_texts.specs.LintTexts.{column_at, count_line, endless_words, file_text, has_untold as has_untold_of};
+ghost use Rattle.lint_texts.specs.LintTexts.{is_unreached as is_unreached_at, last_unreached, lint_line, lint_text_of, lint_words, place_words};
+ghost use Rattle.lint_texts.specs.LintTexts.{remark_count, remark_words, source_line, told_count as count_told, told_lines, unreached_words};
+ghost use Rattle.lint_texts.specs.LintTexts.{untold_line, untold_words, wanted_note};
+ghost use Rattle.lint_texts.specs.Starts.{stands_at, statement_start as start_of_statement, told_at};
+ghost use Rattle.lint_texts.specs.code.Lines.{AreLintLines, reached_in};
 ghost use Rattle.tac_program.specs.Names.{name_at};
 ghost use Rattle.text_pieces.specs.Pieces.{CanWrite, Writes};
 
 use crate::file::File;
 use crate::kinds::kind_name;
+use crate::starts::{Start, Starts, start_among};
 use crate::telling::Telling;
 use flow_graph::{Analysis, Graph};
 use flow_lints::{Lint, Linted, PlacedLint};
 use flow_reports::{Remark, ReportAnswers};
 use flow_texts::{line, write_number};
-use lint_styles::{Hue, column_of, write_painted, write_size, write_source_at};
+use lint_styles::{Hue, column_of, write_painted, write_shown, write_size, write_source_at};
+use tac_program::Stmt;
 use text_pieces::{Pieces, Sink, TextBlock};
 
 // Writes how many dead assignments are not told.
@@ -49,26 +53,33 @@ fn write_remark_count<K: Sink>(out: &mut Pieces<'_, K>, count: usize)
     }
 }
 
-// Where the statement at a point begins; 0 where there is none.
-fn start_of(graph: &Graph<'_>, point: u32) -> u32
-    requires { point < point_count graph.now }
-    ensures { result ≡ start_at graph.now point }
+// Where a statement begins.
+fn statement_start(statement: &Stmt) -> Start
+    ensures { result ≡ start_of_statement statement.now }
 {
-    match graph.stmt(point) {
-        Some(statement) => statement.span.start,
-        None => 0,
+    Start {
+        line: statement.span.line,
+        place: statement.span.start,
     }
 }
 
 /// What the text of lints is written of.
 #[derive(Drop)]
-pub(crate) struct LintLines<'a> {
+pub struct LintLines<'a> {
+    /// The file.
     pub file: File<'a>,
+    /// What is told.
     pub telling: Telling,
+    /// The program's graph.
     pub graph: &'a Graph<'a>,
+    /// The answers to what a report asks.
     pub answers: &'a ReportAnswers,
+    /// The program's lints.
     pub linted: &'a Linted,
+    /// The texts of its expressions.
     pub expressions: TextBlock,
+    /// Where its procedures begin and end in the text.
+    pub starts: Starts,
 }
 
 impl LintLines<'_> {
@@ -84,8 +95,8 @@ impl LintLines<'_> {
         }
     }
 
-    // The last point of the statements that are never reached, from a point on.
-    fn last_unreached(&self, point: u32) -> u32
+    /// The last point of the statements that are never reached, from a point on.
+    pub fn last_unreached(&self, point: u32) -> u32
         requires lines { AreLintLines self.now }
         requires point { point < point_count self.now.graph.now }
         ensures last { result ≡ last_unreached self.now.graph.now (reached_in self.now) point }
@@ -118,8 +129,8 @@ impl LintLines<'_> {
         }
     }
 
-    // The name of a variable: no bytes where it is none of the program.
-    fn variable(&self, variable: u32) -> &[u8]
+    /// The name of a variable: no bytes where it is none of the program.
+    pub fn variable(&self, variable: u32) -> &[u8]
         ensures { result.now ≡ variable_text self.now.graph.now variable }
     {
         self.graph
@@ -128,8 +139,8 @@ impl LintLines<'_> {
             .name_or_empty(variable)
     }
 
-    // The name of a procedure: no bytes where it is none of the program.
-    fn procedure(&self, procedure: u32) -> &[u8]
+    /// The name of a procedure: no bytes where it is none of the program.
+    pub fn procedure(&self, procedure: u32) -> &[u8]
         ensures { result.now ≡ name_at self.now.graph.now.procedure_names procedure }
     {
         self.graph
@@ -138,8 +149,8 @@ impl LintLines<'_> {
             .name_or_empty(procedure)
     }
 
-    // The text of an expression: no bytes where it is none of the program.
-    fn expression(&self, expression: u32) -> &[u8]
+    /// The text of an expression: no bytes where it is none of the program.
+    pub fn expression(&self, expression: u32) -> &[u8]
         requires { AreLintLines self.now }
         ensures { result.now ≡ bit_text self.now.graph.now Avail expression }
     {
@@ -179,8 +190,8 @@ impl LintLines<'_> {
         }
     }
 
-    // Writes what a lint says.
-    fn write_words<K: Sink>(&self, out: &mut Pieces<'_, K>, placed: PlacedLint)
+    /// Writes what a lint says.
+    pub(crate) fn write_words<K: Sink>(&self, out: &mut Pieces<'_, K>, placed: PlacedLint)
         requires ready { CanWrite K.Sink out.old }
         requires lines { AreLintLines self.now }
         requires point { placed.point < point_count self.now.graph.now }
@@ -196,27 +207,54 @@ impl LintLines<'_> {
         }
     }
 
-    // In which column the statement at a point begins.
-    fn column(&self, point: u32) -> usize
-        requires { point < point_count self.now.graph.now }
-        ensures { result ≡ column_at self.now.file.text.now self.now.graph.now point }
+    /// Where a lint at a point is told.
+    pub fn told_start(&self, point: u32) -> Start
+        requires lines { AreLintLines self.now }
+        requires point { point < point_count self.now.graph.now }
+        ensures { result ≡ told_at self.now.file.text.now self.now.graph.now point }
     {
-        let text = self.file.text;
-        let start = start_of(self.graph, point) as usize;
-        column_of(&text[..start.min(text.len())])
+        match self.graph.stmt(point) {
+            Some(statement) => statement_start(statement),
+            None => {
+                let procedure = self.graph.place(point).procedure;
+                start_among(self.starts.openings.as_slice(), procedure)
+            }
+        }
     }
 
-    // Writes where a lint stands.
-    fn write_place<K: Sink>(&self, out: &mut Pieces<'_, K>, placed: PlacedLint)
-        requires ready { CanWrite K.Sink out.old }
-        requires point { placed.point < point_count self.now.graph.now }
-        ensures { Writes K.Sink out.old out.new (place_words (file_text self.now.file) self.now.graph.now placed.point) }
+    /// Where a point stands.
+    pub fn point_start(&self, point: u32) -> Start
+        requires lines { AreLintLines self.now }
+        requires point { point < point_count self.now.graph.now }
+        ensures { result ≡ stands_at self.now.file.text.now self.now.graph.now point }
     {
-        out.write(self.file.name);
+        match self.graph.stmt(point) {
+            Some(statement) => statement_start(statement),
+            None => {
+                let procedure = self.graph.place(point).procedure;
+                start_among(self.starts.closings.as_slice(), procedure)
+            }
+        }
+    }
+
+    /// In which column of its line a place of the text stands.
+    pub fn column(&self, place: u32) -> usize
+        ensures { result ≡ column_at self.now.file.text.now place }
+    {
+        let text = self.file.text;
+        column_of(&text[..text.len().min(place as usize)])
+    }
+
+    // Writes where a lint is told.
+    fn write_place<K: Sink>(&self, out: &mut Pieces<'_, K>, start: Start)
+        requires { CanWrite K.Sink out.old }
+        ensures { Writes K.Sink out.old out.new (place_words (file_text self.now.file) start) }
+    {
+        write_shown(out, self.file.name);
         out.write(b":");
-        write_number(out, line(self.graph, placed.point));
+        write_number(out, start.line);
         out.write(b":");
-        write_size(out, self.column(placed.point));
+        write_size(out, self.column(start.place));
         out.write(b": ");
     }
 
@@ -227,32 +265,25 @@ impl LintLines<'_> {
         requires point { placed.point < point_count self.now.graph.now }
         ensures { Writes K.Sink out.old out.new (lint_line (file_text self.now.file) self.now.telling.style self.now.graph.now (reached_in self.now) placed) }
     {
-        self.write_place(out, placed);
+        self.write_place(out, self.told_start(placed.point));
         write_painted(out, self.telling.style, Hue::Remark, kind_name(placed.lint));
         out.write(b": ");
         self.write_words(out, placed);
         out.write(b"\n");
     }
 
-    // Writes the line of the source in which the statement at a point begins.
-    fn write_source<K: Sink>(&self, out: &mut Pieces<'_, K>, point: u32)
-        requires ready { CanWrite K.Sink out.old }
-        requires point { point < point_count self.now.graph.now }
-        ensures { Writes K.Sink out.old out.new (source_line (file_text self.now.file) self.now.telling.style self.now.graph.now point) }
+    // Writes the line of the source in which a lint is told.
+    fn write_source<K: Sink>(&self, out: &mut Pieces<'_, K>, start: Start)
+        requires { CanWrite K.Sink out.old }
+        ensures { Writes K.Sink out.old out.new (source_line (file_text self.now.file) self.now.telling.style start) }
     {
-        match self.graph.stmt(point) {
-            Some(statement) => {
-                let span = statement.span;
-                write_source_at(
-                    out,
-                    self.telling.style,
-                    self.file.text,
-                    span.line,
-                    span.start,
-                )
-            }
-            None => {}
-        }
+        write_source_at(
+            out,
+            self.telling.style,
+            self.file.text,
+            start.line,
+            start.place,
+        );
     }
 
     // Writes the lines of a lint, where it is told.
@@ -265,7 +296,7 @@ impl LintLines<'_> {
     {
         if self.telling.tells(self.graph, placed) {
             self.write_line(out, placed);
-            self.write_source(out, placed.point);
+            self.write_source(out, self.told_start(placed.point));
         }
     }
 
@@ -286,12 +317,12 @@ impl LintLines<'_> {
     // Writes from which line on the program may never end.
     fn write_endless<K: Sink>(&self, out: &mut Pieces<'_, K>)
         requires ready { CanWrite K.Sink out.old }
-        requires point { IsPointIn self.now.graph.now self.now.linted.now.endless }
-        ensures { Writes K.Sink out.old out.new (endless_words self.now.graph.now self.now.linted.now.endless) }
+        requires lines { AreLintLines self.now }
+        ensures { Writes K.Sink out.old out.new (endless_words self.now.file.text.now self.now.graph.now self.now.linted.now.endless) }
     {
         if let Some(point) = self.linted.endless {
             out.write(b" (from line ");
-            write_number(out, line(self.graph, point));
+            write_number(out, self.point_start(point).line);
             out.write(b" on)");
         }
     }
@@ -300,9 +331,9 @@ impl LintLines<'_> {
     fn write_untold_line<K: Sink>(&self, out: &mut Pieces<'_, K>)
         requires ready { CanWrite K.Sink out.old }
         requires lines { AreLintLines self.now }
-        ensures { Writes K.Sink out.old out.new (untold_line self.now.file.name.now self.now.telling.style self.now.graph.now self.now.linted.now) }
+        ensures { Writes K.Sink out.old out.new (untold_line (file_text self.now.file) self.now.telling.style self.now.graph.now self.now.linted.now) }
     {
-        out.write(self.file.name);
+        write_shown(out, self.file.name);
         out.write(b": ");
         write_painted(out, self.telling.style, Hue::Note, b"note");
         out.write(b": ");
@@ -312,21 +343,28 @@ impl LintLines<'_> {
         out.write(b"\n");
     }
 
+    /// Whether dead assignments are wanted and some are left out.
+    pub fn has_untold(&self) -> bool
+        ensures { result ≡ has_untold_of self.now.telling self.now.linted.now }
+    {
+        self.telling.kinds.dead && 0 < self.linted.left_out
+    }
+
     // Writes that dead assignments are not told, where that is wanted and so.
     fn write_note<K: Sink>(&self, out: &mut Pieces<'_, K>)
         requires ready { CanWrite K.Sink out.old }
         requires lines { AreLintLines self.now }
-        ensures { Writes K.Sink out.old out.new (wanted_note self.now.file.name.now self.now.telling self.now.graph.now self.now.linted.now) }
+        ensures { Writes K.Sink out.old out.new (wanted_note (file_text self.now.file) self.now.telling self.now.graph.now self.now.linted.now) }
     {
-        if self.telling.kinds.dead && 0 < self.linted.left_out {
+        if self.has_untold() {
             self.write_untold_line(out);
         }
     }
 
-    // How many lints are told.
-    fn told_count(&self) -> usize
+    /// How many lints are told.
+    pub fn told_count(&self) -> usize
         requires { AreLintLines self.now }
-        ensures { result ≡ count_by (is_told self.now.telling self.now.graph.now) self.now.linted.now.lints.items }
+        ensures { result ≡ count_told self.now.telling self.now.graph.now self.now.linted.now }
     {
         let lints = self.linted.lints.as_slice();
         let mut count = 0;
@@ -343,9 +381,9 @@ impl LintLines<'_> {
         requires ready { CanWrite K.Sink out.old }
         requires lines { AreLintLines self.now }
         ensures { Writes K.Sink out.old out.new
-            (count_line self.now.file.name.now (count_by (is_told self.now.telling self.now.graph.now) self.now.linted.now.lints.items)) }
+            (count_line self.now.file.name.now (count_told self.now.telling self.now.graph.now self.now.linted.now)) }
     {
-        out.write(self.file.name);
+        write_shown(out, self.file.name);
         out.write(b": ");
         write_remark_count(out, self.told_count());
         out.write(b"\n");

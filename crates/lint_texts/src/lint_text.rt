@@ -4,10 +4,12 @@ ghost use Rattle.std.specs.Prelude.{IfOk};
 ghost use Rattle.flow_lints.specs.Lints.{IsLinted};
 ghost use Rattle.flow_reports.specs.code.Reported.{TellReport};
 ghost use Rattle.lint_texts.specs.LintTexts.{IsLintText, TellsLints, file_text};
+ghost use Rattle.lint_texts.specs.code.Lines.{AreLintLines, AreOf};
 
 use crate::OutOfMemory;
 use crate::file::File;
 use crate::lines::LintLines;
+use crate::starts::Starts;
 use crate::telling::Telling;
 use flow_graph::{Analysis, Graph};
 use flow_lints::{Linted, linted};
@@ -38,6 +40,38 @@ impl<'a> Model for LintText<'a> {
     ghost invariant = { λ text. AreLintLines text.lines };
 }
 
+impl<'a> LintLines<'a> {
+    /// What the text of a file's lints is written of.
+    ///
+    /// The conditions: the answers are to what a report on this graph's program asks, and the lints are the program's. Fails only where memory
+    /// runs out.
+    pub fn of(
+        alloc: Global,
+        file: File<'a>,
+        telling: Telling,
+        graph: &'a Graph<'a>,
+        answers: &'a ReportAnswers,
+        linted: &'a Linted,
+    ) -> Result<LintLines<'a>, OutOfMemory>
+        requires answers { TellReport graph.now answers.now }
+        requires linted { IsLinted graph.now linted.now }
+        ensures lines { IfOk result AreLintLines }
+        ensures parts { IfOk result (AreOf file.entry telling graph.now answers.now linted.now) }
+    {
+        let expressions = texts_of_bits(alloc, graph, Analysis::Avail)?;
+        let starts = Starts::of(alloc, file.text)?;
+        Ok(LintLines {
+            file,
+            telling,
+            graph,
+            answers,
+            linted,
+            expressions,
+            starts,
+        })
+    }
+}
+
 impl<'a> LintText<'a> {
     /// The text of a file, ready to be written.
     ///
@@ -55,17 +89,8 @@ impl<'a> LintText<'a> {
         requires linted { IsLinted graph.now linted.now }
         ensures { IfOk result (IsLintText (file_text file.entry) telling graph.now linted.now) }
     {
-        let expressions = texts_of_bits(alloc, graph, Analysis::Avail)?;
-        Ok(LintText {
-            lines: LintLines {
-                file,
-                telling,
-                graph,
-                answers,
-                linted,
-                expressions,
-            },
-        })
+        let lines = LintLines::of(alloc, file, telling, graph, answers, linted)?;
+        Ok(LintText { lines })
     }
 }
 

@@ -109,11 +109,13 @@ const SOURCES: &[Row] = &[
             "a.tac: 3 remarks",
         ],
     ),
-    // The last line lacks its line feed. A procedure that has no statement has no line.
+    // The last line lacks its line feed. A procedure that has no statement is told at its `proc`.
     (
         "proc main\nend\nproc p\nend\nproc q\n skip\nend",
         &[
-            "a.tac:0:1: never-called: procedure p is never called",
+            "a.tac:3:1: never-called: procedure p is never called",
+            "    3 | proc p",
+            "      | ^",
             "a.tac:6:2: never-called: procedure q is never called",
             "    6 |  skip",
             "      |  ^",
@@ -124,6 +126,26 @@ const SOURCES: &[Row] = &[
         "proc main\nx = 1\nL: goto L\nend\n",
         &[
             "a.tac: note: 1 dead assignment is not told, since the program may never end (from line 2 on)",
+            "a.tac: no remarks",
+        ],
+    ),
+];
+
+// Procedures that have no statement, behind blanks, comments and labels: each is told at its own `proc`.
+const EMPTY: &[Row] = &[
+    (
+        "# proc p\nproc main\nend # end\n\n  proc p # q\n\nend\nproc q\nL:\nend\n",
+        &[
+            "a.tac:5:3: never-called: procedure p is never called",
+            "a.tac:8:1: never-called: procedure q is never called",
+            "a.tac: 2 remarks",
+        ],
+    ),
+    // `p` ends at its `end`, from which no path leads to the end of `main`, and stands before it.
+    (
+        "\nproc p\n # p\n end\nproc main\ncall p\nx = 1\nL: goto L\nend\n",
+        &[
+            "a.tac: note: 1 dead assignment is not told, since the program may never end (from line 4 on)",
             "a.tac: no remarks",
         ],
     ),
@@ -210,6 +232,11 @@ fn kinds_that_are_not_usual(rt: HostRuntime) -> Result<(), Fail> {
 #[test]
 fn lines_of_the_source(rt: HostRuntime) -> Result<(), Fail> {
     check_rows(&rt, telling(Kinds::usual(), WITH_SOURCE), SOURCES)
+}
+
+#[test]
+fn procedures_with_no_statement(rt: HostRuntime) -> Result<(), Fail> {
+    check_rows(&rt, telling(Kinds::usual(), PLAIN), EMPTY)
 }
 
 #[test]

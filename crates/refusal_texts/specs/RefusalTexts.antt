@@ -1,7 +1,7 @@
 -- The text of a file that is refused.
 use Rattle.std.specs.Prelude.{ℕ, Bool, true, false, List, [], ◌++◌, map, flat_map, take, length, Option, Some, None, slice_range, nat_eq, nat_lt}
 use Rattle.std.specs.Prelude.{nat_le, codes, decimal, if◌then◌else◌}
-use Rattle.lint_styles.specs.Styles.{painted, shown_byte, source_of}
+use Rattle.lint_styles.specs.Styles.{painted, shown, source_of}
 use Rattle.lint_styles.specs.declared.style.Hue.TheVariants.{Error, Note}
 use Rattle.lint_styles.specs.declared.style.Style.{Style}
 use Rattle.tac_hints.specs.Texts.{hint_of}
@@ -37,7 +37,7 @@ abbrev pub cut_sign : ℕ → List ℕ
 cut_sign count = if nat_lt most_shown count then codes ".." else []
 
 abbrev pub quoted_part : List ℕ → List ℕ
-quoted_part part = codes "`" ++ flat_map shown_byte (take most_shown part) ++ cut_sign (length part) ++ codes "`"
+quoted_part part = codes "`" ++ shown (take most_shown part) ++ cut_sign (length part) ++ codes "`"
 
 abbrev pub quoted : List ℕ → Bytes → List ℕ
 quoted text b = quoted_part (slice_range text b.start b.stop)
@@ -175,7 +175,7 @@ hint_words text h = quoted_if text (quoted_bytes h) ++ sentence_words h ++ sente
 
 -- `FILE:LINE:COLUMN: `
 abbrev pub place_words : List ℕ → Refusal → List ℕ
-place_words file r = file ++ codes ":" ++ decimal r.line ++ codes ":" ++ decimal r.column ++ codes ": "
+place_words file r = shown file ++ codes ":" ++ decimal r.line ++ codes ":" ++ decimal r.column ++ codes ": "
 
 -- `FILE:LINE:COLUMN: error: WORDS (refusal NUMBER)`
 abbrev pub error_line : Style → List ℕ → Refusal → List ℕ
@@ -209,7 +209,7 @@ error_count count =
 
 -- `FILE: N errors`
 abbrev pub count_line : List ℕ → ℕ → List ℕ
-count_line file count = file ++ codes ": " ++ error_count count ++ codes "\n"
+count_line file count = shown file ++ codes ": " ++ error_count count ++ codes "\n"
 
 -- The text of a file of this name that is refused so.
 abbrev pub refusal_text_of : Style → List ℕ → List ℕ → List ToldRefusal → List ℕ

@@ -6,6 +6,7 @@ mod sentences;
 mod texts;
 mod told;
 
+pub use sentences::{hint_text, kind_words};
 pub use std::alloc::AllocError as OutOfMemory;
-pub use texts::{RefusalText, refusal_text};
+pub use texts::{RefusalText, is_some_hint, refusal_text};
 pub use told::{ToldRefusal, told_refusals};

@@ -1,16 +1,18 @@
 // What is told of a fault, in sentences.
 
-ghost use Rattle.std.specs.Prelude.{◌≡◌};
+ghost use Rattle.std.specs.Prelude.{◌≡◌, IfOk};
 ghost use Rattle.refusal_texts.specs.RefusalTexts.{hint_words, kind_words as words_of_kind, quoted_bytes, quoted_if, sentence_end};
 ghost use Rattle.refusal_texts.specs.RefusalTexts.{sentence_words, slip_words as words_of_slip};
 ghost use Rattle.refusal_texts.specs.code.Endings.{ending_text};
 ghost use Rattle.text_pieces.specs.Pieces.{CanWrite, Writes};
 
+use crate::OutOfMemory;
 use crate::quotes::{write_part, write_quoted};
 use lint_styles::write_size;
+use std::alloc::Global;
 use tac_faults::{Bytes, Hint, Slip};
 use tac_lines::{Keyword, RefusalKind};
-use text_pieces::{Pieces, Sink};
+use text_pieces::{Pieces, Sink, Text, whole_text};
 
 /// What is wrong.
 pub fn kind_words(kind: RefusalKind) -> &'static [u8]
@@ -340,4 +342,28 @@ pub fn write_hint<K: Sink>(out: &mut Pieces<'_, K>, text: &[u8], hint: Hint)
     write_bytes(out, text, bytes_of(hint));
     out.write(words_of(hint));
     write_ending(out, ending_of(hint));
+}
+
+// What stands there, and how it is mended.
+#[derive(Clone, Copy)]
+struct HintText<'a> {
+    text: &'a [u8],
+    hint: Hint,
+}
+
+impl<'a> Text for HintText<'a> {
+    ghost use Rattle.refusal_texts.specs.RefusalTexts.{hint_words};
+
+    ghost bytes = { λ told. hint_words told.text.now told.hint };
+
+    fn write<K: Sink>(&self, out: &mut Pieces<'_, K>) {
+        write_hint(out, self.text, self.hint);
+    }
+}
+
+/// What stands there, and how it is mended, made whole. Fails only where memory runs out.
+pub fn hint_text(alloc: Global, text: &[u8], hint: Hint) -> Result<Vec<u8>, OutOfMemory>
+    ensures { IfOk result (λ words. words.items ≡ hint_words text.now hint) }
+{
+    whole_text(alloc, &HintText { text, hint })
 }

@@ -9,7 +9,7 @@ ghost use Rattle.text_pieces.specs.Pieces.{CanWrite, Writes};
 use crate::OutOfMemory;
 use crate::sentences::{kind_words, write_hint};
 use crate::told::{ToldRefusal, told_refusals};
-use lint_styles::{Hue, Style, write_painted, write_size, write_source_of};
+use lint_styles::{Hue, Style, write_painted, write_shown, write_size, write_source_of};
 use std::alloc::Global;
 use tac_faults::{Hint, MOST_TOLD};
 use tac_lines::Refusal;
@@ -36,7 +36,7 @@ fn write_place<K: Sink>(out: &mut Pieces<'_, K>, file: &[u8], refusal: Refusal)
     requires { CanWrite K.Sink out.old }
     ensures { Writes K.Sink out.old out.new (place_words file.now refusal) }
 {
-    out.write(file);
+    write_shown(out, file);
     out.write(b":");
     write_size(out, refusal.line as usize);
     out.write(b":");
@@ -58,8 +58,8 @@ fn write_error<K: Sink>(out: &mut Pieces<'_, K>, style: Style, file: &[u8], refu
     out.write(b")\n");
 }
 
-// Whether something is told on the mend.
-fn is_some_hint(hint: Hint) -> bool
+/// Whether something is told on the mend.
+pub fn is_some_hint(hint: Hint) -> bool
     ensures { result ≡ some_hint hint }
 {
     match hint {
@@ -140,7 +140,7 @@ impl RefusalText<'_> {
         requires { CanWrite K.Sink out.old }
         ensures { Writes K.Sink out.old out.new (count_line self.now.file.now (length self.now.told.now)) }
     {
-        out.write(self.file);
+        write_shown(out, self.file);
         out.write(b": ");
         write_error_count(out, self.told.len());
         out.write(b"\n");

@@ -6,7 +6,7 @@ returns g c =
     takes_then _ _ _ _ _
     (takes_then _ _ _ _ _
     (takes_then _ _ _ _ _
-    (takes_then _ _ _ _ _ (takes_then _ _ _ _ _ c.write.ensures c.write-2.ensures) c.write_size.ensures)
-    c.write-3.ensures)
+    (takes_then _ _ _ _ _ (takes_then _ _ _ _ _ c.write_shown.ensures c.write.ensures) c.write_size.ensures)
+    c.write-2.ensures)
     c.write_size-2.ensures)
-    c.write-4.ensures
+    c.write-3.ensures

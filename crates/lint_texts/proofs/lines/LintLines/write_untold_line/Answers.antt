@@ -8,9 +8,9 @@ returns g c =
     (takes_then _ _ _ _ _
     (takes_then _ _ _ _ _
     (takes_then _ _ _ _ _
-    (takes_then _ _ _ _ _ (takes_then _ _ _ _ _ c.write.ensures c.write-2.ensures) c.write_painted.ensures)
-    c.write-3.ensures)
+    (takes_then _ _ _ _ _ (takes_then _ _ _ _ _ c.write_shown.ensures c.write.ensures) c.write_painted.ensures)
+    c.write-2.ensures)
     c.write_untold.ensures)
-    c.write-4.ensures)
+    c.write-3.ensures)
     c.write_endless.ensures)
-    c.write-5.ensures
+    c.write-4.ensures

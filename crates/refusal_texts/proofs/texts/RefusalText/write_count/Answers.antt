@@ -4,5 +4,5 @@ use Rattle.refusal_texts.proofs.texts.RefusalText.write_count.Goals as goal
 pub returns : goal.returns
 returns g c =
     takes_then _ _ _ _ _
-    (takes_then _ _ _ _ _ (takes_then _ _ _ _ _ c.write.ensures c.write-2.ensures) c.write_error_count.ensures)
-    c.write-3.ensures
+    (takes_then _ _ _ _ _ (takes_then _ _ _ _ _ c.write_shown.ensures c.write.ensures) c.write_error_count.ensures)
+    c.write-2.ensures

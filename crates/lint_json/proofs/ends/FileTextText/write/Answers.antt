@@ -1,0 +1,5 @@
+use Rattle.text_pieces.proofs.sinks.Taking.{takes_then}
+use Rattle.lint_json.proofs.ends.FileTextText.write.Goals as goal
+
+pub returns : goal.returns
+returns g c = takes_then _ _ _ _ _ c.write_begin.ensures c.write.ensures
