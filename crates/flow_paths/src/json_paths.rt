@@ -27,7 +27,8 @@ use crate::unset_paths::UnsetPaths;
 use flow_graph::Graph;
 use flow_reports::{Findings, Remark, RemarkForm, ReportAnswers};
 use flow_texts::{line, write_number};
-use flow_views::{NameForm, View, ViewProgram, ViewTables, write_remark_head};
+use flow_views::{NameForm, View, ViewProgram, ViewTables};
+use json_texts::{write_end, write_json, write_remark_head};
 use std::alloc::Global;
 use std::marker::Model;
 use tac_program::Program;
@@ -149,7 +150,7 @@ impl RemarkForm for PathLine<'_> {
     }
 }
 
-/// The lines of JSON of [`JsonText`](flow_views::JsonText), in which each remark has what stands around it, behind its other fields:
+/// The lines of JSON of [`JsonText`](json_texts::JsonText), in which each remark has what stands around it, behind its other fields:
 ///
 ///     {"type":"remark","point":3,"line":5,"first":29,"last":35,"kind":"unset","variable":"x",
 ///      "path":[{"kind":"pass","site":0,"callee":1,"from":0,"to":1},..]}
@@ -289,8 +290,8 @@ impl<'a> Text for JsonPathsText<'a> {
             paths: &self.paths,
             arounds: &self.around.arounds,
         };
-        self.shown.write_json(&form, out);
+        write_json(&self.shown, &form, out);
         write_doubts(out, self.graph, &self.around.doubts);
-        self.shown.write_end(out);
+        write_end(&self.shown, out);
     }
 }

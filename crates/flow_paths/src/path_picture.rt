@@ -13,6 +13,7 @@ use crate::OutOfMemory;
 use crate::asked_use::use_named;
 use crate::shown::{Shown, is_within, points_shown};
 use crate::unset_paths::UnsetPaths;
+use dot_texts::write_open_dot;
 use flow_graph::Graph;
 use flow_reports::{ReportAnswers, UnsetUse};
 use flow_texts::write_number;
@@ -205,7 +206,7 @@ impl<'a> Text for PathDotText<'a> {
 
     fn write<K: Sink>(&self, out: &mut Pieces<'_, K>) {
         out.write(b"strict ");
-        self.shown.write_open_dot(out);
+        write_open_dot(&self.shown, out);
         let hops = self.paths.hops(self.one.point, self.one.variable);
         write_path_marks(out, self.points, hops);
         write_point_mark(out, self.points, self.one.point);

@@ -1,8 +1,6 @@
-//! Two texts of a program's flow graph with its facts, written in pieces: for Graphviz, and as lines of JSON.
+//! What is shown of a program's flow graph with its facts, and how it is named: what pictures and lines of JSON are made of.
 #![tactic(auto)]
 
-mod dots;
-mod json;
 mod labels;
 mod names;
 mod point_form;
@@ -10,10 +8,9 @@ mod view;
 mod view_program;
 mod view_tables;
 
-pub use dots::DotText;
-pub use json::{JsonText, write_remark_head};
-pub use names::NameForm;
+pub use names::{NameForm, Names};
+pub use point_form::PointForm;
 pub use std::alloc::AllocError as OutOfMemory;
 pub use view::{Chosen, Look, View, analysis_name};
-pub use view_program::ViewProgram;
-pub use view_tables::ViewTables;
+pub use view_program::{Numbers, ViewProgram};
+pub use view_tables::{ViewTables, shown_points};

@@ -22,17 +22,17 @@ pub enum NameForm {
 }
 
 /// What the bits are called, in one form.
-pub(crate) struct Names {
+pub struct Names {
     /// The form.
-    pub(crate) form: NameForm,
+    pub form: NameForm,
     /// The texts of the definitions.
-    pub(crate) definitions: TextBlock,
+    pub definitions: TextBlock,
     /// The names of the variables.
-    pub(crate) variables: TextBlock,
+    pub variables: TextBlock,
     /// The texts of the expressions.
-    pub(crate) expressions: TextBlock,
+    pub expressions: TextBlock,
     /// The numbers of all bits, where the form has them.
-    pub(crate) numbers: TextBlock,
+    pub numbers: TextBlock,
 }
 
 impl Drop for Names {

@@ -11,13 +11,15 @@ use crate::view_program::ViewProgram;
 use text_pieces::{Pieces, Sink};
 
 /// How one point is written.
-pub(crate) trait PointForm {
+pub trait PointForm {
     // How the names of bits are written there.
     ghost name_form: { Self → NameForm };
 
     ghost text: { Self → ViewValue → ℕ → List ℕ };
 
     /// Writes a point that is shown.
+    ///
+    /// The conditions: it is one program that is shown, with names in this form, and the point is one of those that are shown.
     fn write_point<K: Sink>(&self, out: &mut Pieces<'_, K>, shown: &ViewProgram<'_>, point: u32)
         requires ready { CanWrite K.Sink out.old }
         requires shown { AreShown shown.now }

@@ -12,6 +12,9 @@ ghost use Rattle.flow_reports.specs.Uses.{unset_uses};
 ghost use Rattle.flow_reports.specs.code.Findings.{knowledge_of};
 ghost use Rattle.flow_reports.specs.code.Reported.{TellReport};
 ghost use Rattle.text_pieces.specs.code.Lists.{some_stand};
+ghost use Rattle.point_sets.specs.Sets.{has_behind, set_on};
+ghost use Rattle.point_sets.specs.code.PointSets.{IsPointSet};
+ghost use Rattle.point_sets.specs.declared.side.Side.TheVariants.{Behind};
 ghost use Rattle.tac_listing.specs.Listings.{statement_text};
 ghost use Rattle.flow_views.specs.code.Names.{AreNamesOf};
 ghost use Rattle.flow_views.specs.code.ViewProgram.{AreShown, AreShownProcedures, IsShownPoint, IsShownProcedure, IsShownTable, TellSame};
@@ -30,6 +33,7 @@ use crate::view_tables::{ViewTables, shown_points};
 use flow_graph::{Analysis, Edge, Graph};
 use flow_reports::{Findings, RemarkForm, ReportAnswers, UnsetUse};
 use flow_team::Table;
+use point_sets::{PointSet, Side};
 use smallvec::SmallVec;
 use std::alloc::Global;
 use tac_listing::Scope;
@@ -38,24 +42,26 @@ use text_pieces::{Pieces, Sink, TextBlock};
 
 /// Numbers from the first on and before the end.
 #[derive(Clone, Copy)]
-pub(crate) struct Numbers {
-    pub(crate) first: u32,
-    pub(crate) end: u32,
+pub struct Numbers {
+    /// The first number.
+    pub first: u32,
+    /// The number behind the last.
+    pub end: u32,
 }
 
 /// What was found of a program, what the bits of its analyses are called, its edges, and what is shown of it.
 #[derive(Drop)]
 pub struct ViewProgram<'a> {
     /// What was found.
-    pub(crate) found: Findings<'a>,
+    pub found: Findings<'a>,
     /// The tables of the analyses whose facts are shown.
     pub(crate) tables: &'a ViewTables,
     /// What its bits are called.
-    pub(crate) names: Names,
+    pub names: Names,
     /// The edges out of each point.
     pub(crate) successors: Vec<SmallVec<Edge, 2, Global>>,
     /// What is shown.
-    pub(crate) view: View,
+    pub view: View,
 }
 
 /// The points of a procedure.
@@ -149,7 +155,7 @@ impl<'a> ViewProgram<'a> {
 
 impl ViewProgram<'_> {
     /// What the bits of an analysis are called.
-    pub(crate) fn names(&self, analysis: Analysis) -> &TextBlock
+    pub fn names(&self, analysis: Analysis) -> &TextBlock
         requires { AreShown self.now }
         ensures { AreNamesOf self.now.names.form self.now.found.graph.now analysis result.now }
     {
@@ -162,7 +168,7 @@ impl ViewProgram<'_> {
     }
 
     /// The table of an analysis, where its facts are shown.
-    pub(crate) fn table(&self, analysis: Analysis) -> Option<&Table>
+    pub fn table(&self, analysis: Analysis) -> Option<&Table>
         requires { AreShown self.now }
         ensures none { result ≡ None → is_chosen self.now.view.facts analysis ≡ false }
         ensures some { IfSome result (λ table. is_chosen self.now.view.facts analysis ≡ true) }
@@ -177,7 +183,7 @@ impl ViewProgram<'_> {
     }
 
     /// Writes the remarks of a point, each in that form.
-    pub(crate) fn write_remarks_at<F: RemarkForm, K: Sink>(
+    pub fn write_remarks_at<F: RemarkForm, K: Sink>(
         &self,
         form: &F,
         out: &mut Pieces<'_, K>,
@@ -193,7 +199,7 @@ impl ViewProgram<'_> {
     }
 
     /// Whether the statement at a point reads a variable that may not be set there.
-    pub(crate) fn reads_unset(&self, point: u32, kind: &StmtKind) -> bool
+    pub fn reads_unset(&self, point: u32, kind: &StmtKind) -> bool
         requires shown { AreShown self.now }
         requires point { point < point_count self.now.found.graph.now }
         requires kind { kind_at self.now.found.graph.now point ≡ Some kind.now }
@@ -203,7 +209,7 @@ impl ViewProgram<'_> {
     }
 
     /// Whether the statement at a point assigns a variable that is dead behind it.
-    pub(crate) fn sets_dead(&self, point: u32, kind: &StmtKind) -> bool
+    pub fn sets_dead(&self, point: u32, kind: &StmtKind) -> bool
         requires shown { AreShown self.now }
         requires point { point < point_count self.now.found.graph.now }
         requires kind { kind_at self.now.found.graph.now point ≡ Some kind.now }
@@ -227,7 +233,7 @@ impl ViewProgram<'_> {
     }
 
     /// The edges out of a point.
-    pub(crate) fn edges(&self, point: u32) -> &[Edge]
+    pub fn edges(&self, point: u32) -> &[Edge]
         requires shown { AreShown self.now }
         requires point { point < point_count self.now.found.graph.now }
         ensures { result.now ≡ edges_from self.now.found.graph.now point }
@@ -235,8 +241,34 @@ impl ViewProgram<'_> {
         self.successors[point as usize].as_slice()
     }
 
+    /// The set of a table that is shown, before the statement at a point or behind it.
+    ///
+    /// The conditions: it is one program that is shown, the table is one of its tables, the point is shown, and a set of its own stands on that
+    /// side.
+    pub fn point_set<'b>(&'b self, table: &'b Table, point: u32, side: Side) -> PointSet<'b>
+        requires shown { AreShown self.now }
+        requires table { IsShownTable self.now table.now }
+        requires point { point < point_count self.now.found.graph.now }
+        requires shows { IsShownPoint self.now point }
+        requires side { side ≡ Behind → has_behind self.now.found.graph.now point ≡ true }
+        ensures set { IsPointSet result }
+        ensures graph { result.graph.now ≡ self.now.found.graph.now }
+        ensures table { result.table.now ≡ table.now }
+        ensures tells { set_on result.side result.graph.now result.table.now.analysis (facts_of result.table.now) result.point
+            ≡ set_on side self.now.found.graph.now table.now.analysis (known_facts (known_of self.now) table.now.analysis) point }
+    {
+        PointSet {
+            graph: self.found.graph,
+            table,
+            edges: self.edges(point),
+            point,
+            side,
+            hides_entry: self.view.look.hides_entry,
+        }
+    }
+
     /// The outcome of a test by which control goes from a point to another.
-    pub(crate) fn outcome(&self, source: u32, target: u32) -> Option<bool>
+    pub fn outcome(&self, source: u32, target: u32) -> Option<bool>
         requires shown { AreShown self.now }
         requires source { source < point_count self.now.found.graph.now }
         ensures { result ≡ outcome self.now.found.graph.now source target }
@@ -251,7 +283,7 @@ impl ViewProgram<'_> {
     }
 
     /// The labels of a point.
-    pub(crate) fn labels(&self, point: u32) -> &[Label]
+    pub fn labels(&self, point: u32) -> &[Label]
         requires { point < point_count self.now.found.graph.now }
         ensures { result.now ≡ labels_at self.now.found.graph.now point }
     {
@@ -261,7 +293,7 @@ impl ViewProgram<'_> {
     }
 
     /// The name of a label of a point.
-    pub(crate) fn label_name(&self, point: u32, label: Label) -> &[u8]
+    pub fn label_name(&self, point: u32, label: Label) -> &[u8]
         requires { point < point_count self.now.found.graph.now }
         ensures { result.now ≡ label_name self.now.found.graph.now point label }
     {
@@ -273,7 +305,7 @@ impl ViewProgram<'_> {
     }
 
     /// Whether a point is doubtful.
-    pub(crate) fn is_doubtful(&self, point: u32) -> bool
+    pub fn is_doubtful(&self, point: u32) -> bool
         requires shown { AreShown self.now }
         requires point { point < point_count self.now.found.graph.now }
         ensures { result ≡ (known_of self.now).doubtful point }
@@ -282,7 +314,7 @@ impl ViewProgram<'_> {
     }
 
     /// The procedures that are shown.
-    pub(crate) fn procedures(&self) -> Numbers
+    pub fn procedures(&self) -> Numbers
         requires { AreShown self.now }
         ensures numbers { numbers_of result ≡ shown_procedures self.now.found.graph.now self.now.view }
         ensures ordered { result.first ≤ result.end }
@@ -303,7 +335,7 @@ impl ViewProgram<'_> {
     }
 
     /// The points of a procedure.
-    pub(crate) fn points_of(&self, procedure: u32) -> Numbers
+    pub fn points_of(&self, procedure: u32) -> Numbers
         requires shown { AreShown self.now }
         requires procedure { procedure < length self.now.found.graph.now.procedures }
         ensures numbers { numbers_of result ≡ points_in self.now.found.graph.now procedure }
@@ -315,7 +347,7 @@ impl ViewProgram<'_> {
     }
 
     /// The name of a procedure.
-    pub(crate) fn procedure_name(&self, procedure: u32) -> &[u8]
+    pub fn procedure_name(&self, procedure: u32) -> &[u8]
         requires { procedure < length self.now.found.graph.now.procedures }
         ensures { result.now ≡ name_of_procedure self.now.found.graph.now procedure }
     {
@@ -326,7 +358,7 @@ impl ViewProgram<'_> {
     }
 
     /// The procedure of a point.
-    pub(crate) fn scope(&self, point: u32) -> Scope<'_>
+    pub fn scope(&self, point: u32) -> Scope<'_>
         requires { point < point_count self.now.found.graph.now }
         ensures program { result.program.now ≡ self.now.found.graph.now }
         ensures procedure { result.procedure ≡ procedure_at self.now.found.graph.now point }
@@ -339,7 +371,7 @@ impl ViewProgram<'_> {
     }
 
     /// Writes the statement at a point as it stands between quotes.
-    pub(crate) fn write_statement<K: Sink>(&self, out: &mut Pieces<'_, K>, point: u32, stmt: &Stmt)
+    pub fn write_statement<K: Sink>(&self, out: &mut Pieces<'_, K>, point: u32, stmt: &Stmt)
         requires ready { CanWrite K.Sink out.old }
         requires shown { AreShown self.now }
         requires point { point < point_count self.now.found.graph.now }
@@ -350,7 +382,7 @@ impl ViewProgram<'_> {
     }
 
     /// Writes each point of a procedure that is shown.
-    pub(crate) fn write_points<F: PointForm, K: Sink>(
+    pub fn write_points<F: PointForm, K: Sink>(
         &self,
         form: &F,
         out: &mut Pieces<'_, K>,
@@ -370,7 +402,7 @@ impl ViewProgram<'_> {
     }
 
     /// Writes each point that is shown.
-    pub(crate) fn write_all_points<F: PointForm, K: Sink>(&self, form: &F, out: &mut Pieces<'_, K>)
+    pub fn write_all_points<F: PointForm, K: Sink>(&self, form: &F, out: &mut Pieces<'_, K>)
         requires ready { CanWrite K.Sink out.old }
         requires shown { AreShown self.now }
         requires form { self.now.names.form ≡ F.name_form form.now }

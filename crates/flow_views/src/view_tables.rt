@@ -39,7 +39,9 @@ impl Drop for ViewTables {
 }
 
 /// The points that are shown: of one procedure, or of all.
-pub(crate) fn shown_points(graph: &Graph<'_>, procedure: Option<u32>) -> Numbers
+///
+/// The condition: the procedure is there.
+pub fn shown_points(graph: &Graph<'_>, procedure: Option<u32>) -> Numbers
     requires { IfSome procedure (λ number. number < length graph.now.procedures) }
     ensures first { result.first ≡ first_shown graph.now procedure }
     ensures end { result.end ≡ end_shown graph.now procedure }

@@ -1,9 +1,11 @@
 // Both texts of small programs, by hand.
 
+use dot_texts::DotText;
 use flow_graph::Graph;
 use flow_reports::ReportAnswers;
 use flow_team::{OpenGate, Team};
-use flow_views::{Chosen, DotText, JsonText, Look, View, ViewTables};
+use flow_views::{Chosen, Look, View, ViewTables};
+use json_texts::JsonText;
 use std::alloc::Global;
 use std::process::Abort;
 use std::test::Fail;

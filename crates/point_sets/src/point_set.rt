@@ -52,8 +52,10 @@ impl PointSet<'_> {
         }
     }
 
-    // Whether a bit holds there.
-    fn contains(&self, bit: u32) -> bool
+    /// Whether a bit holds there.
+    ///
+    /// The conditions: it is a set of a table of the graph's program, as [`write_point_set`] has it, and the bit is one of the table's.
+    pub fn contains(&self, bit: u32) -> bool
         requires set { IsPointSet self.now }
         requires bit { bit < self.now.table.now.bits }
         ensures { result ≡ set_on self.now.side self.now.graph.now self.now.table.now.analysis (facts_of self.now.table.now) self.now.point bit }

@@ -18,13 +18,15 @@ ghost use Rattle.view_commands.specs.Views.{LacksRemark, ShowsProcedure, digest_
 
 use crate::options::{Format, Options};
 use crate::progress::Progress;
+use dot_texts::DotText;
 use flow_graph::Graph;
 use flow_parts::{PartText, digest, part_bits};
 use flow_paths::{JsonPathsText, PathDotText};
 use flow_reports::ReportAnswers;
 use flow_runs::{Fault, OutOfMemory, Output, graph_of, push_report, push_text};
 use flow_team::Team;
-use flow_views::{DotText, JsonText, View, ViewTables};
+use flow_views::{View, ViewTables};
+use json_texts::JsonText;
 use part_texts::Share;
 use std::alloc::Global;
 use std::thread::Threads;

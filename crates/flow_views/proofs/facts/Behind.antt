@@ -52,7 +52,7 @@ steps_alone program point _ is (a_return site there calling none ends) =
     absurd (cc (sym is ∙ ap (λ o. unwrap_or (option_map (λ k. not (is_call k)) o) false) none))
 
 -- the procedure of one of its points
-procedure_of : (program : Program) (procedure point : ℕ) → procedure < length program.procedures → entry_point program procedure ≤ point
+pub procedure_of : (program : Program) (procedure point : ℕ) → procedure < length program.procedures → entry_point program procedure ≤ point
     → point < entry_point program procedure + suc (end_place program procedure) → procedure_at program point ≡ procedure
 procedure_of program procedure point there low high =
     let place : ℕ = point - entry_point program procedure in

@@ -50,7 +50,7 @@ same_filtered f g test (x ∷ xs) same = by_test (test x) refl (same_filtered f 
     by_test false is rest = rest
 
 -- of the analyses that are chosen
-same_chosen : {A : Type 0} (f g : Analysis → List A) (chosen : Chosen)
+pub same_chosen : {A : Type 0} (f g : Analysis → List A) (chosen : Chosen)
     → ((analysis : Analysis) → is_chosen chosen analysis ≡ true → f analysis ≡ g analysis)
     → flat_map f (chosen_analyses chosen) ≡ flat_map g (chosen_analyses chosen)
 same_chosen f g chosen same = same_filtered f g (is_chosen chosen) all.ALL same
@@ -73,7 +73,7 @@ behind_there program view point side is among = by_test (view.look.behind && has
     by_test false test at = absurd (cc (Contains-one Before Behind at))
 
 -- a point that is shown is one of the program
-shown_below : (program : Program) (procedure : Option ℕ) → IfSome procedure (λ p. p < length program.procedures) → (point : ℕ)
+pub shown_below : (program : Program) (procedure : Option ℕ) → IfSome procedure (λ p. p < length program.procedures) → (point : ℕ)
     → (first_shown program procedure ≤ point) × (point < end_shown program procedure) → point < point_count program
 shown_below program None there point at = at.1
 shown_below program (Some procedure) there point at = omega (arith, at.1, ends_below program procedure there)
@@ -104,7 +104,7 @@ same_procedures program procedure f g same first (suc n) there are =
     ∙ (λ i. here i ++ rest i)
     ∙ sym (flat_map-append g (points_in program first) others)
 
-same_shown : (program : Program) (procedure : Option ℕ) → IfSome procedure (λ p. p < length program.procedures) → (f g : ℕ → List ℕ)
+pub same_shown : (program : Program) (procedure : Option ℕ) → IfSome procedure (λ p. p < length program.procedures) → (f g : ℕ → List ℕ)
     → ((point : ℕ) → (first_shown program procedure ≤ point) × (point < end_shown program procedure) → f point ≡ g point)
     → (facts : Chosen) (look : Look)
     → flat_map f (shown_points program (record { facts = facts; procedure = procedure; look = look }))

@@ -1,5 +1,0 @@
-use Rattle.text_pieces.proofs.sinks.Taking.{takes_then}
-use Rattle.flow_views.proofs.json.JsonLineRemarkForm.write_remark.Goals as goal
-
-pub returns : goal.returns
-returns g c = takes_then _ _ _ _ _ c.write_remark_head.ensures c.write.ensures

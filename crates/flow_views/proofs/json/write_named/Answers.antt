@@ -1,6 +1,0 @@
-use Rattle.text_pieces.proofs.sinks.Taking.{takes_then}
-use Rattle.flow_views.proofs.json.write_named.Goals as goal
-
-pub returns : goal.returns
-returns g c =
-    takes_then _ _ _ _ _ c.write.ensures c.write_quoted.ensures

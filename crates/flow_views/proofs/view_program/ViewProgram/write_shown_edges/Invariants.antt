@@ -1,9 +1,0 @@
-use Rattle.std.proofs.Common.{flat_map, take}
-use Rattle.text_pieces.specs.Pieces.{Writes}
-use Rattle.flow_views.specs.Dots.{shown_edge}
-use Rattle.flow_views.proofs.view_program.ViewProgram.write_shown_edges.Given as goal
-
-abbrev pub invariant-loop-edge : goal.invariant-loop-edge
-invariant-loop-edge g l =
-    Writes g.K.Sink l.fn.out l.out
-    (flat_map (shown_edge l.fn.self.found.graph.now l.fn.self.view) (take l.edge-index l.edges))

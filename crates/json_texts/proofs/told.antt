@@ -1,0 +1,4 @@
+pub mod Ahead
+pub mod BusyRemarks
+pub mod Numbers
+pub mod SameChanges
