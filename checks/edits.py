@@ -35,8 +35,7 @@ EXCEPTIONS: dict[str, str] = {  # what needs neither a caller nor an edit, each 
     "flow_rows: Board::split": "hands on WordBoard::split; split_holds_the_same_slice turns it",
     "flow_texts: table_text": "hands on TableText, over whose clauses flow_commands is proved",
     "gk_solve: SliceWords::visits": "a counter, of which no contract speaks",
-    "lint_json: lint_json_here": "hands on lint_json, over whose clauses it is proved",
-    "lint_json: refusal_json": "no program calls it yet; refusal_texts has edits of what it tells",
+    "lint_json: lint_json_here": "hands on lint_json, over whose clauses lint_commands is proved",
     "lint_texts: lint_text_here": "hands on LintText, over whose clauses lint_commands is proved",
     "tac_lines: Line::labels": "tac_reader calls it, of what Lines::line gives",
 }

@@ -1,5 +1,5 @@
-"""Whether an object is as docs/tacview.schema.json says: the few rules of JSON Schema that stand
-there, and no others."""
+"""Whether an object is as docs/tacview.schema.json or docs/taclint.schema.json says: the few rules
+of JSON Schema that stand there, and no others."""
 
 from __future__ import annotations
 
@@ -8,7 +8,7 @@ import os
 from typing import Any
 
 HERE = os.path.dirname(os.path.realpath(__file__))
-SCHEMA = os.path.join(HERE, "..", "docs", "tacview.schema.json")
+DOCS = os.path.join(HERE, "..", "docs")
 TYPES = {
     "object": dict,
     "array": list,
@@ -24,10 +24,10 @@ KNOWN = {
 
 
 class Schema:
-    """The schema of tacview's lines."""
+    """The schema of the lines of a program, tacview or taclint."""
 
-    def __init__(self) -> None:
-        with open(SCHEMA, encoding="utf-8") as file:
+    def __init__(self, program: str = "tacview") -> None:
+        with open(os.path.join(DOCS, f"{program}.schema.json"), encoding="utf-8") as file:
             self.whole: dict[str, Any] = json.load(file)
 
     def fault(self, value: Any) -> str | None:

@@ -65,6 +65,11 @@ NO_FILE = "none.tac: cannot be opened: No such file or directory (os error 2)\n"
 TYPED = FILES["dead.tac"]
 TYPED_DEAD = DEAD.replace("dead.tac", "<stdin>")
 TYPED_LINES = DEAD_LINES.replace("dead.tac", "<stdin>")
+READING = "taclint: reading standard input\n"
+QUIET_JSON = (
+    '{"type":"file","file":"quiet.tac","version":1}\n'
+    '{"type":"end","file":"quiet.tac","remarks":0}\n'
+)
 NO_MAIN = "<stdin>:1:1: error: no procedure is called `main` (refusal 6)\n<stdin>: 1 error\n"
 SMALL = "points 1, variables 0, definitions 0, expressions 0\n"
 HELP = re.compile(r"Tells what is worth a look .*\nUsage: taclint .*--kinds.*", re.S)
@@ -109,6 +114,10 @@ ROWS = [
     Row("taclint --error -", 1, "", TYPED_DEAD, TYPED + END_OF_INPUT),
     Row("taclint quiet.tac - dead.tac", 0, "", QUIET + TYPED_DEAD + DEAD, TYPED + END_OF_INPUT),
     Row("taclint -", 3, "", NO_MAIN, END_OF_INPUT),
+    # no file, but another word: who types is told that it is read, and a file is not
+    Row("taclint --kinds all", 0, READING + TYPED_LINES, None, TYPED + END_OF_INPUT, colour=True),
+    Row("taclint --error", 1, READING, TYPED_DEAD, TYPED + END_OF_INPUT),
+    Row("taclint --error <dead.tac", 1, "", TYPED_DEAD),
     # several files, and statuses
     Row("taclint quiet.tac", 0, QUIET),
     Row("taclint dead.tac quiet.tac", 0, DEAD_LINES + QUIET, colour=True),
@@ -131,11 +140,14 @@ ROWS = [
     Row("taclint --color never dead.tac", 0, DEAD_LINES),
     Row("taclint --color always dead.tac", 0, "", DEAD_PAINTED),
     Row("taclint --source dead.tac wrong.tac", 3, "", DEAD_LINES + WRONG_LINES),
+    Row("taclint --format json quiet.tac", 0, QUIET_JSON),
+    Row("taclint --format json --color always --source quiet.tac", 0, "", QUIET_JSON),
     Row("taclint --help", 0, HELP, environment={"NO_COLOR": "1"}),
     # a reader that goes away: nothing is said by taclint, one line by the others
     Row(gone("taclint many.tac", "head -n 1"), 3, FIRST_OF_MANY),
     Row(gone("taclint many.tac"), 3, ""),
     Row(gone("taclint many.tac many.tac dead.tac"), 3, ""),
+    Row(gone("taclint many.tac none.tac"), 3, ""),
     Row(gone("taclint --help"), 3, ""),
     Row(gone("tacflow <many.tac"), 1, "tacflow: write fault\n"),
     Row(gone("tacview <many.tac"), 1, "tacview: write fault\n"),

@@ -11,7 +11,7 @@ use Rattle.clap.specs.declared.builder.possible_value.PossibleValue.{PossibleVal
 use Rattle.clap.specs.declared.error.Error.{Error}
 use Rattle.clap.specs.declared.error.kind.ErrorKind.TheVariants.{InvalidValue, OutOfMemory}
 use Rattle.flow_runs.specs.Words.{AreKindsOf, kind_rule}
-use Rattle.lint_commands.specs.Kinds.{coloring_named, colorings, kinds_named, kinds_queried, limits_named, sizes}
+use Rattle.lint_commands.specs.Kinds.{coloring_named, colorings, form_named, forms, kinds_named, kinds_queried, limits_named, sizes}
 use Rattle.lint_commands.specs.declared.options.Options.{Options}
 
 -- `--NAME TEXT`, any text, with no default.
@@ -26,18 +26,22 @@ flag_rule name = record (new_rule name) { long = Some name; action = Some SetTru
 abbrev pub words_rule : Text → Rule
 words_rule name = record (new_rule name) { value_names = 1; action = Some Append }
 
--- `taclint [--limits SIZE] [--kinds LIST] [--procedure NAME] [--source] [--color WHEN] [--error] [FILE ..]`
+-- `taclint [--limits SIZE] [--kinds LIST] [--procedure NAME] [--format FORM] [--source] [--color WHEN] [--error] [FILE ..]`
 abbrev pub kinds_command : Bor (List PossibleValue) → App
 kinds_command bounds =
     with_rule (with_rule (with_rule (new_app (codes "taclint")) (kind_rule (codes "limits") (codes "standard") bounds)) (text_rule (codes "kinds")))
     (text_rule (codes "procedure"))
 
-abbrev pub style_command : Bor (List PossibleValue) → Bor (List PossibleValue) → App
-style_command bounds colors =
-    with_rule (with_rule (kinds_command bounds) (flag_rule (codes "source"))) (kind_rule (codes "color") (codes "auto") colors)
+abbrev pub form_command : Bor (List PossibleValue) → Bor (List PossibleValue) → App
+form_command bounds shapes = with_rule (kinds_command bounds) (kind_rule (codes "format") (codes "text") shapes)
 
-abbrev pub taclint_command : Bor (List PossibleValue) → Bor (List PossibleValue) → App
-taclint_command bounds colors = with_rule (with_rule (style_command bounds colors) (flag_rule (codes "error"))) (words_rule (codes "files"))
+abbrev pub style_command : Bor (List PossibleValue) → Bor (List PossibleValue) → Bor (List PossibleValue) → App
+style_command bounds shapes colors =
+    with_rule (with_rule (form_command bounds shapes) (flag_rule (codes "source"))) (kind_rule (codes "color") (codes "auto") colors)
+
+abbrev pub taclint_command : Bor (List PossibleValue) → Bor (List PossibleValue) → Bor (List PossibleValue) → App
+taclint_command bounds shapes colors =
+    with_rule (with_rule (style_command bounds shapes colors) (flag_rule (codes "error"))) (words_rule (codes "files"))
 
 -- Whether an option stands there that has no value.
 abbrev pub has_flag : Text → List Row → Bool
@@ -52,6 +56,7 @@ pub record NamesOptions (rows : List Row) (options : Options) : Type 0 where
   pub named_limits : option_and_then limits_named (first_of (codes "limits") rows) ≡ Some options.limits
   pub named_kinds : kinds_queried (first_of (codes "kinds") rows) ≡ Some options.kinds
   pub named_procedure : first_of (codes "procedure") rows ≡ option_map string_bytes options.procedure
+  pub named_format : option_and_then form_named (first_of (codes "format") rows) ≡ Some options.format
   pub named_source : has_flag (codes "source") rows ≡ options.source
   pub named_color : option_and_then coloring_named (first_of (codes "color") rows) ≡ Some options.color
   pub named_error : has_flag (codes "error") rows ≡ options.error
@@ -69,15 +74,17 @@ kinds_of true = []
 abbrev pub option_kinds : List Row → Kinds
 option_kinds rows = kinds_of (knows_kinds rows)
 
--- What is answered to the words: the options that the command's matches name, or an error. The command holds the words of limits and of
--- colours by reference, and where they lie is left open.
+-- What is answered to the words: the options that the command's matches name, or an error. The command holds the words of limits, of forms and
+-- of colours by reference, and where they lie is left open.
 pub record AnswersWords (words : List Text) (answer : Result Options Error) : Type 0 where
   pub bounds : Bor (List PossibleValue)
+  pub shapes : Bor (List PossibleValue)
   pub colors : Bor (List PossibleValue)
   pub are_limits : AreKindsOf sizes bounds.now
+  pub are_forms : AreKindsOf forms shapes.now
   pub are_colorings : AreKindsOf colorings colors.now
-  pub named : IfOk answer (NamesOptions (matches_of (taclint_command bounds colors) words))
-  pub refused : IfErr answer (λ e. takes (taclint_command bounds colors) words ≡ true
-      → option_kinds (matches_of (taclint_command bounds colors) words) ≡ [] → kind_of e ≡ OutOfMemory)
-  pub faults : FailsBy (or_else (fault_of (taclint_command bounds colors) words) (option_kinds (matches_of (taclint_command bounds colors) words)))
+  pub named : IfOk answer (NamesOptions (matches_of (taclint_command bounds shapes colors) words))
+  pub refused : IfErr answer (λ e. takes (taclint_command bounds shapes colors) words ≡ true
+      → option_kinds (matches_of (taclint_command bounds shapes colors) words) ≡ [] → kind_of e ≡ OutOfMemory)
+  pub faults : FailsBy (or_else (fault_of (taclint_command bounds shapes colors) words) (option_kinds (matches_of (taclint_command bounds shapes colors) words)))
       answer

@@ -1,9 +1,11 @@
--- The words of the limits, of when there are colours, and of the kinds of lints.
+-- The words of the limits, of the forms, of when there are colours, and of the kinds of lints.
 use Rattle.std.specs.Prelude.{◌==◌, ℕ, Bool, true, List, [], ◌∷◌, Option, None, Some, bytes_eq, codes, if◌then◌else◌}
 use Rattle.std.specs.List.{list_all, list_any, slice_split}
 use Rattle.flow_runs.specs.Words.{kind_named}
 use Rattle.lint_commands.specs.declared.options.Coloring.{Coloring}
 use Rattle.lint_commands.specs.declared.options.Coloring.TheVariants.{Auto, Always, Never}
+use Rattle.lint_commands.specs.declared.options.Form.{Form}
+use Rattle.lint_commands.specs.declared.options.Form.TheVariants as form
 use Rattle.lint_texts.specs.LintTexts.{usual_kinds}
 use Rattle.lint_texts.specs.declared.kinds.Kinds.{Kinds}
 use Rattle.tac_program.specs.declared.limits.Limits.{Limits}
@@ -16,6 +18,13 @@ sizes = (codes "standard", Standard) ∷ (codes "large", Large) ∷ []
 -- The limits that a word names.
 abbrev pub limits_named : List ℕ → Option Limits
 limits_named = kind_named sizes
+
+-- In which form it is written, with the words for it.
+abbrev pub forms : List (List ℕ × Form)
+forms = (codes "text", form.Text) ∷ (codes "json", form.Json) ∷ []
+
+abbrev pub form_named : List ℕ → Option Form
+form_named = kind_named forms
 
 -- When there are colours, with the words for it.
 abbrev pub colorings : List (List ℕ × Coloring)

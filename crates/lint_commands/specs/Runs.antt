@@ -8,16 +8,21 @@ use Rattle.flow_lints.specs.declared.lint.Linted.{Linted}
 use Rattle.flow_runs.specs.Runs.{PullsAll}
 use Rattle.flow_runs.specs.declared.fault.Fault.{Fault}
 use Rattle.flow_runs.specs.declared.fault.Fault.TheVariants as fault
+use Rattle.lint_commands.specs.declared.options.Form.{Form}
+use Rattle.lint_commands.specs.declared.options.Form.TheVariants as form
 use Rattle.lint_commands.specs.declared.runs.Asked.{Asked}
 use Rattle.lint_commands.specs.declared.runs.Request.{Request}
 use Rattle.lint_commands.specs.declared.runs.Wish.{Wish}
 use Rattle.lint_commands.specs.declared.told.Told.{Told}
 use Rattle.lint_commands.specs.declared.told.Told.TheVariants as told
+use Rattle.lint_json.specs.LintJson.{IsLintJson}
+use Rattle.lint_json.specs.RefusalJson.{refusal_json_of}
 use Rattle.lint_styles.specs.declared.style.Style.{Style}
 use Rattle.lint_texts.specs.LintTexts.{FileText, IsLintText, file_text, is_told}
 use Rattle.lint_texts.specs.declared.kinds.Kinds.{Kinds}
 use Rattle.lint_texts.specs.declared.telling.Telling.{Telling}
 use Rattle.refusal_texts.specs.RefusalTexts.{refusal_text_of, told_within}
+use Rattle.refusal_texts.specs.declared.told.ToldRefusal.{ToldRefusal}
 use Rattle.tac_lines.specs.declared.refusal.Refusal.{Refusal}
 use Rattle.tac_program.specs.Programs.{Program}
 use Rattle.tac_program.specs.declared.limits.Limits.{Limits}
@@ -25,12 +30,13 @@ use Rattle.tac_reader.specs.Faults.{refusal_within}
 use Rattle.tac_reader.specs.Parses.{program_of}
 use Rattle.text_pieces.specs.Devices.{AppendsBeginning}
 
--- What is asked for of a file that was read: how large it may be, which kinds of lints are told, of which procedure, and how, what the file
--- is called, and its text.
+-- What is asked for of a file that was read: how large it may be, which kinds of lints are told, of which procedure, in which form, and how,
+-- what the file is called, and its text.
 pub record Wanted : Type 0 where
   pub limits : Limits
   pub kinds : Kinds
   pub name : Option (List ℕ)
+  pub form : Form
   pub style : Style
   pub file : FileText
 
@@ -40,7 +46,7 @@ name_asked request = option_map (λ name. name.now) request.procedure
 
 abbrev pub wanted_by : Limits → Request → FileText → Wanted
 wanted_by limits request file =
-    record { limits = limits; kinds = request.kinds; name = name_asked request; style = request.style; file = file }
+    record { limits = limits; kinds = request.kinds; name = name_asked request; form = request.form; style = request.style; file = file }
 
 abbrev pub wanted : Wish → List ℕ → Wanted
 wanted wish text = wanted_by wish.limits wish.request (record { name = wish.name.now; text = text })
@@ -77,11 +83,21 @@ told_by false = told.Nothing
 abbrev pub has_told : Telling → Program → Linted → Bool
 has_told telling program linted = list_any (is_told telling program) linted.lints.items
 
+-- The text is in this form what is told of a program's lints.
+abbrev pub IsTextOf : Form → FileText → Telling → Program → Linted → List ℕ → Type 0
+IsTextOf form.Text = IsLintText
+IsTextOf form.Json = IsLintJson
+
+-- what is told of a text that is refused, in this form
+abbrev pub errors_text : Form → Style → FileText → List ToldRefusal → List ℕ
+errors_text form.Text style file told = refusal_text_of style file.name file.text told
+errors_text form.Json style file told = refusal_json_of file.name file.text told
+
 -- The text is what a linter writes of a program, and whether it has a remark is what is told.
-pub record Lints (file : FileText) (telling : Telling) (program : Program) (what : Told) (out : List ℕ) : Type 0 where
+pub record Lints (form : Form) (file : FileText) (telling : Telling) (program : Program) (what : Told) (out : List ℕ) : Type 0 where
   pub linted : Linted
   pub is_linted : IsLinted program linted
-  pub is_text : IsLintText file telling program linted out
+  pub is_text : IsTextOf form file telling program linted out
   pub is_told : what ≡ told_by (has_told telling program linted)
 
 -- The program has a graph within the limits and the procedure that is asked for, and this is written of it.
@@ -90,7 +106,7 @@ pub record LintsWithin (w : Wanted) (program : Program) (what : Told) (out : Lis
   pub few_bits : HasFewBits w.limits program
   pub procedure : Option ℕ
   pub asked : ShowsProcedure program w.name procedure
-  pub lints : Lints w.file (telling_of w procedure) program what out
+  pub lints : Lints w.form w.file (telling_of w procedure) program what out
 
 -- The file's text is a program, and this is written of it.
 pub record TellsProgram (w : Wanted) (what : Told) (out : List ℕ) : Type 0 where
@@ -100,7 +116,7 @@ pub record TellsProgram (w : Wanted) (what : Told) (out : List ℕ) : Type 0 whe
 -- Errors are told, and these are all that is wrong with the text.
 pub record HasErrors (w : Wanted) (what : Told) (out : List ℕ) : Type 0 where
   pub are_errors : what ≡ told.Errors
-  pub is_text : out ≡ refusal_text_of w.style w.file.name w.file.text (told_within w.limits w.file.text)
+  pub is_text : out ≡ errors_text w.form w.style w.file (told_within w.limits w.file.text)
 
 -- The file's text is refused, and this is written of it.
 pub record TellsErrors (w : Wanted) (what : Told) (out : List ℕ) : Type 0 where

@@ -1,6 +1,7 @@
 //! What `taclint` does with its words and with a file: the lints of a program, or all that is wrong with a text.
 #![tactic(auto)]
 
+mod failures;
 mod kinds;
 mod missing;
 mod options;
@@ -8,8 +9,9 @@ mod runs;
 mod told;
 mod words;
 
+pub use failures::failed_line;
 pub use missing::missing_line;
-pub use options::{Coloring, Options};
+pub use options::{Coloring, Form, Options};
 pub use runs::{Request, Wish, run};
 pub use std::alloc::AllocError as OutOfMemory;
 pub use told::Told;

@@ -21,15 +21,15 @@ impl<'a> Text for MissingText<'a> {
     ghost bytes = { λ text. missing_line text.file.now text.name.now };
 
     fn write<K: Sink>(&self, out: &mut Pieces<'_, K>) {
-        out.write(self.file);
+        write_shown(out, self.file);
         out.write(b": the program has no procedure ");
         write_shown(out, self.name);
         out.write(b"\n");
     }
 }
 
-/// The line on standard error that tells that a file's program has no procedure of a name, in which each byte that is no printed sign of ASCII
-/// is told as `\x` and two hexadecimal digits. Fails only where memory runs out.
+/// The line on standard error that tells that a file's program has no procedure of a name; in both names each byte that is no printed sign of
+/// ASCII is told as `\x` and two hexadecimal digits. Fails only where memory runs out.
 pub fn missing_line(alloc: Global, file: &[u8], name: &[u8]) -> Result<Vec<u8>, OutOfMemory>
     ensures { IfOk result (λ line. line.items ≡ missing_line file.now name.now) }
 {

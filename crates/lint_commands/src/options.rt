@@ -13,6 +13,15 @@ pub enum Coloring {
     Never,
 }
 
+/// In which form is written what is told.
+#[derive(Debug, Clone, Copy, PartialEq, Eq)]
+pub enum Form {
+    /// As lines for a reader.
+    Text,
+    /// As lines of JSON, for tools.
+    Json,
+}
+
 /// Which files are looked at, and how.
 #[derive(Drop)]
 pub struct Options {
@@ -22,6 +31,8 @@ pub struct Options {
     pub kinds: Kinds,
     /// The name of the one procedure of which remarks are told; without it of all.
     pub procedure: Option<String>,
+    /// In which form is written what is told.
+    pub format: Form,
     /// Whether lines of the source are shown anywhere; at a terminal they are.
     pub source: bool,
     /// When there are colours.

@@ -7,22 +7,27 @@ ghost use Rattle.flow_reports.specs.code.Reported.{TellReport};
 ghost use Rattle.flow_runs.specs.Faults.{Delivers, OfProgram, UnlessWrite, WhereNoGraph, WhereNoProcedure, WhereNoRemark};
 ghost use Rattle.flow_runs.specs.Faults.{WhereRefused, WhereWrite, read_faults_in, write_faults_in};
 ghost use Rattle.flow_runs.specs.Runs.{HasNoGraph, IsOverLimit, Lacking, PullsLacking, PullsOverLimit};
-ghost use Rattle.lint_commands.specs.Runs.{DeliversBy, HasErrors, HasProcedure, LacksProcedure, Lints, LintsWithin, ShowsProcedure, Tells};
+ghost use Rattle.lint_commands.specs.Runs.{DeliversBy, HasErrors, HasProcedure, IsTextOf, LacksProcedure, Lints, LintsWithin, ShowsProcedure};
+ghost use Rattle.lint_commands.specs.Runs.{Tells, errors_text};
 ghost use Rattle.lint_commands.specs.Runs.{WritesBeginning, WritesTold, name_asked, told_by as told_of_remarks, wanted_of};
+ghost use Rattle.lint_json.specs.LintJson.{IsLintJson};
+ghost use Rattle.lint_json.specs.RefusalJson.{refusal_json_of};
 ghost use Rattle.lint_texts.specs.LintTexts.{IsLintText, file_text};
 
+use crate::options::Form;
 use crate::told::Told;
 use flow_graph::Graph;
 use flow_lints::{Linted, linted};
 use flow_reports::ReportAnswers;
 use flow_runs::{Fault, graph_of, pull_text, push_text};
+use lint_json::{lint_json, refusal_json};
 use lint_texts::{File, Kinds, LintText, Style, Telling};
-use refusal_texts::{RefusalText, told_refusals};
+use refusal_texts::{RefusalText, ToldRefusal, told_refusals};
 use std::alloc::Global;
 use tac_lines::ReadFault;
 use tac_program::{Limits, Program};
 use tac_reader::read_within;
-use text_pieces::{Sink, Source};
+use text_pieces::{Bytes, Sink, Source};
 
 /// What is asked for of each file.
 #[derive(Clone, Copy)]
@@ -31,6 +36,8 @@ pub struct Request<'a> {
     pub kinds: Kinds,
     /// The name of the one procedure of which they are told; without it of all.
     pub procedure: Option<&'a [u8]>,
+    /// In which form they are written.
+    pub form: Form,
     /// How they are shown.
     pub style: Style,
 }
@@ -57,6 +64,7 @@ pub(crate) struct Asked<'a> {
 // A file, and what is told of it.
 #[derive(Clone, Copy)]
 struct Shown<'a> {
+    form: Form,
     file: File<'a>,
     telling: Telling,
 }
@@ -120,6 +128,52 @@ fn push_linted<K: Sink>(
     push_text(alloc, &text, sink)
 }
 
+// Writes the lines of JSON of lints.
+fn push_json<K: Sink>(
+    alloc: Global,
+    shown: Shown<'_>,
+    graph: &Graph<'_>,
+    answers: &ReportAnswers,
+    told: &Linted,
+    sink: &mut K,
+) -> Result<(), Fault>
+    requires answers { TellReport graph.now answers.now }
+    requires linted { IsLinted graph.now told.now }
+    requires below { K.faults sink.old < 2 ^ 32 - 1 }
+    ensures delivers { Delivers (IsLintJson (file_text shown.entry.file) shown.entry.telling graph.now told.now)
+        (K.contents sink.old) (K.contents sink.new) result }
+    ensures flushed { OnOk result (K.flushed sink.new ≡ true) }
+    ensures fault { IfErr result (OfProgram (λ _. ⊥) ⊥ ⊥) }
+    ensures faults { K.faults sink.new ≡ K.faults sink.old + write_faults_in result }
+{
+    let text = lint_json(alloc, shown.file, shown.telling, graph, answers, told)?;
+    push_text(alloc, &Bytes(text.as_slice()), sink)
+}
+
+// Writes what is told of lints, in the form that is asked for.
+fn push_formed<K: Sink>(
+    alloc: Global,
+    shown: Shown<'_>,
+    graph: &Graph<'_>,
+    answers: &ReportAnswers,
+    told: &Linted,
+    sink: &mut K,
+) -> Result<(), Fault>
+    requires answers { TellReport graph.now answers.now }
+    requires linted { IsLinted graph.now told.now }
+    requires below { K.faults sink.old < 2 ^ 32 - 1 }
+    ensures delivers { Delivers (IsTextOf shown.entry.form (file_text shown.entry.file) shown.entry.telling graph.now told.now)
+        (K.contents sink.old) (K.contents sink.new) result }
+    ensures flushed { OnOk result (K.flushed sink.new ≡ true) }
+    ensures fault { IfErr result (OfProgram (λ _. ⊥) ⊥ ⊥) }
+    ensures faults { K.faults sink.new ≡ K.faults sink.old + write_faults_in result }
+{
+    match shown.form {
+        Form::Text => push_linted(alloc, shown, graph, answers, told, sink),
+        Form::Json => push_json(alloc, shown, graph, answers, told, sink),
+    }
+}
+
 // Writes the text of a graph's lints out of answers.
 fn push_answers<K: Sink>(
     alloc: Global,
@@ -130,7 +184,7 @@ fn push_answers<K: Sink>(
 ) -> Result<Told, Fault>
     requires answers { TellReport graph.now answers.now }
     requires below { K.faults sink.old < 2 ^ 32 - 1 }
-    ensures delivers { DeliversBy (Lints (file_text shown.entry.file) shown.entry.telling graph.now)
+    ensures delivers { DeliversBy (Lints shown.entry.form (file_text shown.entry.file) shown.entry.telling graph.now)
         (K.contents sink.old) (K.contents sink.new) result }
     ensures flushed { OnOk result (K.flushed sink.new ≡ true) }
     ensures fault { IfErr result (OfProgram (λ _. ⊥) ⊥ ⊥) }
@@ -138,7 +192,7 @@ fn push_answers<K: Sink>(
 {
     let told = linted(alloc, graph, answers)?;
     let what = told_by(shown.telling.tells_any(graph, &told));
-    match push_linted(alloc, shown, graph, answers, &told, sink) {
+    match push_formed(alloc, shown, graph, answers, &told, sink) {
         Ok(()) => Ok(what),
         Err(fault) => Err(fault),
     }
@@ -152,7 +206,7 @@ fn push_graph<K: Sink>(
     sink: &mut K,
 ) -> Result<Told, Fault>
     requires { K.faults sink.old < 2 ^ 32 - 1 }
-    ensures delivers { DeliversBy (Lints (file_text shown.entry.file) shown.entry.telling graph.now)
+    ensures delivers { DeliversBy (Lints shown.entry.form (file_text shown.entry.file) shown.entry.telling graph.now)
         (K.contents sink.old) (K.contents sink.new) result }
     ensures flushed { OnOk result (K.flushed sink.new ≡ true) }
     ensures fault { IfErr result (OfProgram (λ _. ⊥) ⊥ ⊥) }
@@ -186,6 +240,7 @@ fn push_shown<K: Sink>(
     push_graph(
         alloc,
         Shown {
+            form: asked.request.form,
             file: asked.file,
             telling,
         },
@@ -214,6 +269,53 @@ fn push_lints<K: Sink>(
     }
 }
 
+// Writes the lines of JSON of a text that is refused.
+fn push_error_json<K: Sink>(
+    alloc: Global,
+    file: File<'_>,
+    told: &[ToldRefusal],
+    sink: &mut K,
+) -> Result<(), Fault>
+    requires { K.faults sink.old < 2 ^ 32 - 1 }
+    ensures delivers { Delivers (λ out. out ≡ refusal_json_of file.entry.name.now file.entry.text.now told.now)
+        (K.contents sink.old) (K.contents sink.new) result }
+    ensures flushed { OnOk result (K.flushed sink.new ≡ true) }
+    ensures fault { IfErr result (OfProgram (λ _. ⊥) ⊥ ⊥) }
+    ensures faults { K.faults sink.new ≡ K.faults sink.old + write_faults_in result }
+{
+    let text = refusal_json(alloc, file.name, file.text, told)?;
+    push_text(alloc, &Bytes(text.as_slice()), sink)
+}
+
+// Writes what is told of a text that is refused, in the form that is asked for.
+fn push_refusals<K: Sink>(
+    alloc: Global,
+    asked: Asked<'_>,
+    told: &[ToldRefusal],
+    sink: &mut K,
+) -> Result<(), Fault>
+    requires { K.faults sink.old < 2 ^ 32 - 1 }
+    ensures delivers { Delivers (λ out. out ≡ errors_text asked.entry.request.form asked.entry.request.style (file_text asked.entry.file) told.now)
+        (K.contents sink.old) (K.contents sink.new) result }
+    ensures flushed { OnOk result (K.flushed sink.new ≡ true) }
+    ensures fault { IfErr result (OfProgram (λ _. ⊥) ⊥ ⊥) }
+    ensures faults { K.faults sink.new ≡ K.faults sink.old + write_faults_in result }
+{
+    let file = asked.file;
+    match asked.request.form {
+        Form::Text => {
+            let text = RefusalText {
+                style: asked.request.style,
+                file: file.name,
+                text: file.text,
+                told,
+            };
+            push_text(alloc, &text, sink)
+        }
+        Form::Json => push_error_json(alloc, file, told, sink),
+    }
+}
+
 // Writes all that is wrong with a text.
 fn push_errors<K: Sink>(alloc: Global, asked: Asked<'_>, sink: &mut K) -> Result<Told, Fault>
     requires { K.faults sink.old < 2 ^ 32 - 1 }
@@ -223,14 +325,7 @@ fn push_errors<K: Sink>(alloc: Global, asked: Asked<'_>, sink: &mut K) -> Result
     ensures faults { K.faults sink.new ≡ K.faults sink.old + write_faults_in result }
 {
     let told = told_refusals(alloc, asked.limits, asked.file.text)?;
-    let told = told.as_slice();
-    let text = RefusalText {
-        style: asked.request.style,
-        file: asked.file.name,
-        text: asked.file.text,
-        told,
-    };
-    match push_text(alloc, &text, sink) {
+    match push_refusals(alloc, asked, told.as_slice(), sink) {
         Ok(()) => Ok(Told::Errors),
         Err(fault) => Err(fault),
     }

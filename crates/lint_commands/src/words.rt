@@ -5,14 +5,15 @@ ghost use Rattle.std.specs.String.{string_bytes};
 ghost use Rattle.clap.specs.Words.{FailsBy, app_of, first_of, found_of, rows_of, rule_of};
 ghost use Rattle.flow_runs.specs.Words.{AreKindsOf, kind_rule};
 ghost use Rattle.flow_runs.specs.code.Matches.{HoldsKind};
-ghost use Rattle.lint_commands.specs.Commands.{AnswersWords, NamesOptions, files_queried, flag_rule, has_flag, kinds_command, knows_kinds};
-ghost use Rattle.lint_commands.specs.Commands.{option_kinds, style_command, taclint_command, text_rule, words_rule};
-ghost use Rattle.lint_commands.specs.Kinds.{coloring_named, colorings as known_colorings, kinds_queried, limits_named, sizes as known_sizes};
+ghost use Rattle.lint_commands.specs.Commands.{AnswersWords, NamesOptions, files_queried, flag_rule, form_command, has_flag, kinds_command};
+ghost use Rattle.lint_commands.specs.Commands.{knows_kinds, option_kinds, style_command, taclint_command, text_rule, words_rule};
+ghost use Rattle.lint_commands.specs.Kinds.{coloring_named, colorings as known_colorings, form_named, forms as known_forms, kinds_queried};
+ghost use Rattle.lint_commands.specs.Kinds.{limits_named, sizes as known_sizes};
 ghost use Rattle.lint_commands.specs.code.Matches.{HoldsOptions};
 
 use crate::OutOfMemory;
 use crate::kinds::kinds_of;
-use crate::options::{Coloring, Options};
+use crate::options::{Coloring, Form, Options};
 use clap::builder::PossibleValue;
 use clap::error::ErrorKind;
 use clap::{Arg, ArgAction, ArgMatches, Command, Error};
@@ -80,6 +81,25 @@ fn colorings<'a>() -> [PossibleValue<'a>; 3]
     ]
 }
 
+fn form_of(word: &str) -> Option<Form>
+    ensures { result ≡ form_named word.now }
+{
+    match word {
+        "text" => Some(Form::Text),
+        "json" => Some(Form::Json),
+        _ => None,
+    }
+}
+
+fn forms<'a>() -> [PossibleValue<'a>; 2]
+    ensures { AreKindsOf known_forms result }
+{
+    [
+        PossibleValue::new("text").help("Lines for a reader"),
+        PossibleValue::new("json").help("Lines of JSON, for tools"),
+    ]
+}
+
 fn limits_option<'a>(alloc: Global, sizes: &'a [PossibleValue<'a>]) -> Arg<'a>
     ensures rule { rule_of result ≡ kind_rule (codes "limits") (codes "standard") sizes.entry }
     ensures own { result.global ≡ false }
@@ -116,6 +136,19 @@ fn procedure_option<'a>(alloc: Global) -> Arg<'a>
         .value_name("NAME")
         .action(ArgAction::Set)
         .help("The one procedure of which remarks are told; each file has to have it")
+}
+
+fn format_option<'a>(alloc: Global, forms: &'a [PossibleValue<'a>]) -> Arg<'a>
+    ensures rule { rule_of result ≡ kind_rule (codes "format") (codes "text") forms.entry }
+    ensures own { result.global ≡ false }
+{
+    Arg::new(alloc, "format")
+        .long("format")
+        .value_name("FORM")
+        .action(ArgAction::Set)
+        .value_parser(forms)
+        .default_value("text")
+        .help("How it is written")
 }
 
 fn source_option<'a>(alloc: Global) -> Arg<'a>
@@ -176,15 +209,27 @@ fn kinds_command<'a>(
         .arg(procedure_option(alloc))
 }
 
+// The command with these, and with the one that says in which form it is written.
+fn form_command<'a>(
+    alloc: Global,
+    sizes: &'a [PossibleValue<'a>],
+    forms: &'a [PossibleValue<'a>],
+) -> Result<Command<'a>, OutOfMemory>
+    ensures { IfOk result (λ c. app_of c ≡ form_command sizes.entry forms.entry) }
+{
+    kinds_command(alloc, sizes)?.arg(format_option(alloc, forms))
+}
+
 // The command with these, and with those that say how it is shown.
 fn style_command<'a>(
     alloc: Global,
     sizes: &'a [PossibleValue<'a>],
+    forms: &'a [PossibleValue<'a>],
     colorings: &'a [PossibleValue<'a>],
 ) -> Result<Command<'a>, OutOfMemory>
-    ensures { IfOk result (λ c. app_of c ≡ style_command sizes.entry colorings.entry) }
+    ensures { IfOk result (λ c. app_of c ≡ style_command sizes.entry forms.entry colorings.entry) }
 {
-    kinds_command(alloc, sizes)?
+    form_command(alloc, sizes, forms)?
         .arg(source_option(alloc))?
         .arg(color_option(alloc, colorings))
 }
@@ -192,11 +237,12 @@ fn style_command<'a>(
 fn command<'a>(
     alloc: Global,
     sizes: &'a [PossibleValue<'a>],
+    forms: &'a [PossibleValue<'a>],
     colorings: &'a [PossibleValue<'a>],
 ) -> Result<Command<'a>, OutOfMemory>
-    ensures { IfOk result (λ c. app_of c ≡ taclint_command sizes.entry colorings.entry) }
+    ensures { IfOk result (λ c. app_of c ≡ taclint_command sizes.entry forms.entry colorings.entry) }
 {
-    style_command(alloc, sizes, colorings)?
+    style_command(alloc, sizes, forms, colorings)?
         .arg(error_option(alloc))?
         .arg(files_words(alloc))
 }
@@ -207,6 +253,14 @@ fn limits_by(matches: &ArgMatches<'_>) -> Limits
     ensures { option_and_then limits_named (first_of (codes "limits") (rows_of (found_of matches.now))) ≡ Some result }
 {
     limits_of(kind_word(matches, "limits")).unwrap()
+}
+
+// The form that was found.
+fn form_by(matches: &ArgMatches<'_>) -> Form
+    requires { HoldsKind known_forms (rows_of (found_of matches.now)) (codes "format") }
+    ensures { option_and_then form_named (first_of (codes "format") (rows_of (found_of matches.now))) ≡ Some result }
+{
+    form_of(kind_word(matches, "format")).unwrap()
 }
 
 // When there are colours, as was found.
@@ -275,6 +329,7 @@ fn options_of(alloc: Global, matches: &ArgMatches<'_>) -> Result<Option<Options>
     ensures known { IfOk result (λ options. is_some options ≡ knows_kinds (rows_of (found_of matches.now))) }
 {
     let limits = limits_by(matches);
+    let format = form_by(matches);
     let source = has_flag(matches, "source");
     let color = color_by(matches);
     let error = has_flag(matches, "error");
@@ -287,6 +342,7 @@ fn options_of(alloc: Global, matches: &ArgMatches<'_>) -> Result<Option<Options>
         limits,
         kinds,
         procedure,
+        format,
         source,
         color,
         error,
@@ -312,17 +368,23 @@ fn named_options(
 
 impl Options {
     /// The options that the program's words name, of which the first is the program's own name:
-    /// `taclint [--limits SIZE] [--kinds LIST] [--procedure NAME] [--source] [--color WHEN] [--error] [FILE ..]`. Without an option stands its default:
-    /// `standard`, the usual kinds, all procedures, `auto`.
+    /// `taclint [--limits SIZE] [--kinds LIST] [--procedure NAME] [--format FORM] [--source] [--color WHEN] [--error] [FILE ..]`. Without an option
+    /// stands its default: `standard`, the usual kinds, all procedures, `text`, `auto`.
     ///
-    /// Refuses words that the command does not take, a word that is no limits or none of colours and a list that names no kinds among them,
-    /// and a call for help; or memory was refused.
+    /// Refuses words that the command does not take, a word that is no limits, no form or none of colours and a list that names no kinds
+    /// among them, and a call for help; or memory was refused.
     pub fn from_words<'a>(alloc: Global, words: &'a [&'a str]) -> Result<Options, Error>
         ensures { AnswersWords (map (λ w. w.now) words.entry.now) result }
     {
         let sizes = sizes();
+        let forms = forms();
         let colorings = colorings();
-        let mut command = command(alloc, sizes.as_slice(), colorings.as_slice())?;
+        let mut command = command(
+            alloc,
+            sizes.as_slice(),
+            forms.as_slice(),
+            colorings.as_slice(),
+        )?;
         let words: &[&str] = words;
         match command.try_get_matches_from_mut(words) {
             Ok(matches) => named_options(alloc, &mut command, &matches),

@@ -2,7 +2,7 @@
 
 use flow_graph::GraphFault;
 use flow_runs::Fault;
-use lint_commands::{Request, Told, Wish, missing_line, run};
+use lint_commands::{Form, Request, Told, Wish, failed_line, missing_line, run};
 use lint_styles::Style;
 use lint_texts::Kinds;
 use std::io::{ErrorKind, Read};
@@ -61,6 +61,7 @@ fn request_of<'a>(style: Style) -> Request<'a> {
     Request {
         kinds: Kinds::usual(),
         procedure: None,
+        form: Form::Text,
         style,
     }
 }
@@ -132,6 +133,35 @@ fn styles(rt: HostRuntime) -> Result<(), Fail> {
     Ok(())
 }
 
+const DEAD_JSON: &str = "{\"type\":\"file\",\"file\":\"a.tac\",\"version\":1}\n\
+    {\"type\":\"remark\",\"file\":\"a.tac\",\"line\":2,\"column\":1,\"kind\":\"dead\",\"words\":\"the value assigned to x is never used\",\
+    \"variable\":\"x\",\"procedure\":\"main\"}\n\
+    {\"type\":\"end\",\"file\":\"a.tac\",\"remarks\":1}\n";
+
+const WRONG_JSON: &str = "{\"type\":\"file\",\"file\":\"a.tac\",\"version\":1}\n\
+    {\"type\":\"error\",\"file\":\"a.tac\",\"line\":2,\"column\":6,\"refusal\":1,\"words\":\"no word, number or sign begins with this byte\",\
+    \"note\":\"a statement ends with its line: leave the semicolon out\"}\n\
+    {\"type\":\"end\",\"file\":\"a.tac\",\"errors\":1,\"first\":false}\n";
+
+const JSON_TEXTS: &[Row] = &[
+    ("proc main\nx = 1\nend\n", Told::Remarks, DEAD_JSON),
+    (WRONG, Told::Errors, WRONG_JSON),
+];
+
+// The form reaches what is told of programs and of other texts, and the style does not reach JSON.
+#[test]
+fn forms(rt: HostRuntime) -> Result<(), Fail> {
+    let mut request = request_of(COLORED);
+    request.form = Form::Json;
+    for (text, told, written) in JSON_TEXTS {
+        let mut page = blank_page(rt.alloc());
+        let found = run_to_page(&rt, request, text.as_bytes(), &mut page)?;
+        assert_eq!(rt; found, *told, "{written}");
+        assert_eq!(rt; page.taken.as_slice(), written.as_bytes(), "{written}");
+    }
+    Ok(())
+}
+
 const TWO: &[u8] = b"proc main\nx = 1\nend\nproc p\nskip\nend\n";
 
 const OF_P: &[u8] =
@@ -152,10 +182,10 @@ fn procedures(rt: HostRuntime) -> Result<(), Fail> {
     let found = run_to_page(&rt, request, TWO, &mut page);
     assert!(rt; matches!(found, Err(Fault::NoProcedure)));
     assert_eq!(rt; page.taken.as_slice(), OF_P);
-    let line = missing_line(rt.alloc(), b"a.tac", b"q\n")?;
+    let line = missing_line(rt.alloc(), b"a\x1b.tac", b"q\n")?;
     assert_eq!(rt;
         line.as_slice(),
-        b"a.tac: the program has no procedure q\\x0a\n".as_slice()
+        b"a\\x1b.tac: the program has no procedure q\\x0a\n".as_slice()
     );
     Ok(())
 }
@@ -183,6 +213,55 @@ fn faults_of_writers(rt: HostRuntime) -> Result<(), Fail> {
         let found = run_to_page(&rt, request_of(PLAIN), WRONG.as_bytes(), &mut page);
         assert!(rt; matches!(found, Err(Fault::Write)));
         assert_eq!(rt; page.taken.as_slice(), &WRONG_TOLD.as_bytes()[..left]);
+    }
+    Ok(())
+}
+
+/// Limits, a fault, and the line that tells it.
+type Failed = (Limits, Fault, &'static str);
+
+const FAILED: &[Failed] = &[
+    (
+        Limits::Standard,
+        Fault::Graph(GraphFault::TooManyPoints),
+        "a\\x1b.tac: the program has more than 16384 points: each statement has one, and each `end` (refusal 21); --limits large takes more\n",
+    ),
+    (
+        Limits::Large,
+        Fault::Graph(GraphFault::TooManyPoints),
+        "a\\x1b.tac: the program has more than 1048576 points: each statement has one, and each `end` (refusal 21)\n",
+    ),
+    (
+        Limits::Standard,
+        Fault::Graph(GraphFault::TooManyBits),
+        "a\\x1b.tac: the program has more than 4096 variables, 4096 expressions, or 4096 variables and assignments together (refusal 22); \
+        --limits large takes more\n",
+    ),
+    (
+        Limits::Large,
+        Fault::Graph(GraphFault::TooManyBits),
+        "a\\x1b.tac: the program has more than 131072 variables, 131072 expressions, or 1179648 variables and assignments together \
+        (refusal 22)\n",
+    ),
+    (
+        Limits::Large,
+        Fault::Graph(GraphFault::OutOfMemory),
+        "a\\x1b.tac: out of memory\n",
+    ),
+    (
+        Limits::Standard,
+        Fault::OutOfMemory,
+        "a\\x1b.tac: out of memory\n",
+    ),
+    (Limits::Standard, Fault::Read, "a\\x1b.tac: read fault\n"),
+    (Limits::Standard, Fault::Write, "a\\x1b.tac: write fault\n"),
+];
+
+#[test]
+fn lines_of_faults(rt: HostRuntime) -> Result<(), Fail> {
+    for (limits, fault, wanted) in FAILED {
+        let line = failed_line(rt.alloc(), *limits, b"a\x1b.tac", fault)?;
+        assert_eq!(rt; line.as_slice(), wanted.as_bytes());
     }
     Ok(())
 }

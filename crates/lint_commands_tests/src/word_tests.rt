@@ -1,7 +1,7 @@
 // What words name.
 
 use clap::error;
-use lint_commands::{Coloring, Options};
+use lint_commands::{Coloring, Form, Options};
 use lint_styles::Style;
 use lint_texts::Kinds;
 use std::alloc::Global;
@@ -67,7 +67,11 @@ fn words_that_are_taken(rt: HostRuntime) -> Result<(), Fail> {
     assert!(rt; options.limits == Limits::Standard && !options.error);
     assert!(rt; options.kinds == Kinds::usual() && options.files.is_empty());
     assert!(rt; !options.source && options.color == Coloring::Auto);
-    assert!(rt; options.procedure.is_none());
+    assert!(rt; options.procedure.is_none() && options.format == Form::Text);
+    let options = named_by(rt.alloc(), &["taclint", "--format", "json"])?;
+    assert!(rt; options.format == Form::Json);
+    let options = named_by(rt.alloc(), &["taclint", "--format=text"])?;
+    assert!(rt; options.format == Form::Text);
     let options = named_by(rt.alloc(), &["taclint", "--procedure", "p"])?;
     assert!(rt;
         options
@@ -136,6 +140,10 @@ const REFUSED: &[&[&str]] = &[
     &["taclint", "--source=true"],
     &["taclint", "--color", "red"],
     &["taclint", "--color"],
+    &["taclint", "--format", "sarif"],
+    &["taclint", "--format", "JSON"],
+    &["taclint", "--format"],
+    &["taclint", "--format", "json", "--format", "text"],
     &["taclint", "--procedure"],
     &["taclint", "--procedure", "p", "--procedure", "q"],
     &["taclint", "--workers", "2"],

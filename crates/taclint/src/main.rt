@@ -3,8 +3,9 @@
 
 ghost use Rattle.std.specs.Prelude.{◌≡◌, ◌<◌, ◌-◌, ◌^◌, false};
 
-use flow_runs::{Fault, fault_line};
-use lint_commands::{Options, OutOfMemory, Request, Told, Wish, missing_line, run};
+use flow_runs::Fault;
+use lint_commands::{Options, OutOfMemory, Request, Told, Wish, failed_line, missing_line, run};
+use lint_styles::shown_bytes;
 use std::alloc::Global;
 use std::fs::File;
 use std::io::{ErrorKind, IsTerminal, Write};
@@ -17,6 +18,9 @@ const NAME: &str = "taclint";
 
 /// What standard input is called in what is told of it.
 const STANDARD_INPUT: &str = "<stdin>";
+
+/// What who types at a terminal is told that waits for a text.
+const READING: &[u8] = b"taclint: reading standard input\n";
 
 const REMARKS: u8 = 1;
 
@@ -33,6 +37,22 @@ fn tell_line(rt: &HostRuntime, line: Result<Vec<u8>, OutOfMemory>) {
     };
 }
 
+// What came of a file: its status, and whether who reads standard output has gone away.
+#[derive(Clone, Copy)]
+struct Outcome {
+    status: u8,
+    gone: bool,
+}
+
+impl Outcome {
+    fn of(status: u8) -> Outcome {
+        Outcome {
+            status,
+            gone: false,
+        }
+    }
+}
+
 // Whether who reads standard output has gone away. A write that failed fails again.
 fn has_gone(rt: &HostRuntime) -> bool {
     match rt.stdout().write(b"\n") {
@@ -42,19 +62,27 @@ fn has_gone(rt: &HostRuntime) -> bool {
 }
 
 // Tells a fault of a file. That a reader has gone away is told to nobody.
-fn tell_fault(rt: &HostRuntime, request: Request<'_>, name: &str, fault: &Fault) {
-    match (fault, request.procedure) {
-        (Fault::Write, _) if has_gone(rt) => {},
+fn tell_fault(rt: &HostRuntime, wish: Wish<'_>, fault: &Fault) -> Outcome {
+    match (fault, wish.request.procedure) {
+        (Fault::Write, _) if has_gone(rt) => {
+            return Outcome {
+                status: FAILED,
+                gone: true,
+            };
+        }
         (Fault::NoProcedure, Some(procedure)) => {
-            tell_line(rt, missing_line(rt.alloc(), name.as_bytes(), procedure));
-        },
-        _ => tell_line(rt, fault_line(rt.alloc(), name, fault)),
+            tell_line(rt, missing_line(rt.alloc(), wish.name, procedure));
+        }
+        _ => tell_line(rt, failed_line(rt.alloc(), wish.limits, wish.name, fault)),
     }
+    Outcome::of(FAILED)
 }
 
 fn closed_line(alloc: Global, name: &str, error: &io::Error) -> Result<Vec<u8>, OutOfMemory> {
-    let line = format!(in alloc; "{name}: cannot be opened: {error}\n")?;
-    Ok(line.into_bytes())
+    let mut line = shown_bytes(alloc, name.as_bytes())?;
+    let rest = format!(in alloc; ": cannot be opened: {error}\n")?;
+    line.extend_from_slice(rest.as_bytes())?;
+    Ok(line)
 }
 
 // Whether the environment says that colours are unwanted.
@@ -65,14 +93,14 @@ fn has_no_color(rt: &HostRuntime) -> bool {
     }
 }
 
-// Tells of what a source has, and which status that is.
+// Tells of what a source has, and what came of that.
 fn look_at<S: Source>(
     rt: &HostRuntime,
     options: &Options,
     request: Request<'_>,
     name: &str,
     source: &mut S,
-) -> u8
+) -> Outcome
     requires running { S.ended source.old ≡ false }
     requires below { S.faults source.old < 2 ^ 32 - 1 }
 {
@@ -83,17 +111,14 @@ fn look_at<S: Source>(
         name: name.as_bytes(),
     };
     match run(rt.alloc(), wish, source, &mut sink) {
-        Ok(Told::Nothing) => 0,
-        Ok(Told::Remarks) => if options.error { REMARKS } else { 0 },
-        Ok(Told::Errors) => FAILED,
-        Err(fault) => {
-            tell_fault(rt, request, name, &fault);
-            FAILED
-        }
+        Ok(Told::Nothing) => Outcome::of(0),
+        Ok(Told::Remarks) => Outcome::of(if options.error { REMARKS } else { 0 }),
+        Ok(Told::Errors) => Outcome::of(FAILED),
+        Err(fault) => tell_fault(rt, wish, &fault),
     }
 }
 
-fn look_at_file(rt: &HostRuntime, options: &Options, request: Request<'_>, name: &str) -> u8 {
+fn look_at_file(rt: &HostRuntime, options: &Options, request: Request<'_>, name: &str) -> Outcome {
     if name == "-" {
         let mut source = FromRead::new(rt.stdin());
         return look_at(rt, options, request, STANDARD_INPUT, &mut source);
@@ -105,26 +130,43 @@ fn look_at_file(rt: &HostRuntime, options: &Options, request: Request<'_>, name:
         }
         Err(error) => {
             tell_line(rt, closed_line(rt.alloc(), name, &error));
-            FAILED
+            Outcome::of(FAILED)
         }
     }
 }
 
-// The largest status of all files.
-fn look_at_all(rt: &HostRuntime, options: &Options) -> ExitCode {
+// Looks at standard input, since no file is asked for. Who types at a terminal is told so.
+fn look_at_input(rt: &HostRuntime, options: &Options, request: Request<'_>) -> u8 {
+    if rt.stdin().is_terminal() {
+        let _ = rt.stderr().write_all(READING);
+    }
+    look_at_file(rt, options, request, "-").status
+}
+
+// The largest status of all files. Behind a reader that has gone away no more are looked at.
+fn look_at_all(rt: &HostRuntime, options: &Options, request: Request<'_>) -> u8 {
+    let mut status = 0;
+    for name in &options.files {
+        let outcome = look_at_file(rt, options, request, name.as_str());
+        status = status.max(outcome.status);
+        if outcome.gone {
+            break;
+        }
+    }
+    status
+}
+
+fn look(rt: &HostRuntime, options: &Options) -> ExitCode {
     let request = Request {
         kinds: options.kinds,
         procedure: options.procedure.as_ref().map(|name| name.as_bytes()),
+        form: options.format,
         style: options.style(rt.stdout().is_terminal(), has_no_color(rt)),
     };
     if options.files.is_empty() {
-        return ExitCode::from(look_at_file(rt, options, request, "-"));
+        return ExitCode::from(look_at_input(rt, options, request));
     }
-    let mut status = 0;
-    for name in &options.files {
-        status = status.max(look_at_file(rt, options, request, name.as_str()));
-    }
-    ExitCode::from(status)
+    ExitCode::from(look_at_all(rt, options, request))
 }
 
 // Tells help on standard output, and what is wrong with the words on standard error.
@@ -150,7 +192,7 @@ fn run_words(rt: &HostRuntime) -> io::Result<ExitCode> {
         words.push("--help")?;
     }
     match Options::from_words(rt.alloc(), &words) {
-        Ok(options) => Ok(look_at_all(rt, &options)),
+        Ok(options) => Ok(look(rt, &options)),
         Err(error) => Ok(tell_words(rt, &error)),
     }
 }

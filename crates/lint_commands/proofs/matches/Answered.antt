@@ -9,7 +9,7 @@ use Rattle.clap.specs.declared.error.Error.{Error}
 use Rattle.clap.specs.declared.error.kind.ErrorKind.TheVariants.{OutOfMemory}
 use Rattle.flow_runs.specs.Words.{AreKindsOf}
 use Rattle.lint_commands.specs.Commands.{AnswersWords, NamesOptions, option_kinds, taclint_command}
-use Rattle.lint_commands.specs.Kinds.{colorings, sizes}
+use Rattle.lint_commands.specs.Kinds.{colorings, forms, sizes}
 use Rattle.lint_commands.specs.declared.options.Options.{Options}
 
 -- an error of options that fit is want of memory
@@ -25,19 +25,22 @@ unless_taken P (Ok options) Q told = tt
 unless_taken P (Err e) Q told = λ _. told
 
 -- where `clap` has taken the words, the options decide
-pub answered : (words : List Text) (bounds colors : Bor (List PossibleValue)) → AreKindsOf sizes bounds.now → AreKindsOf colorings colors.now
-    → (r : Result Options Error) (rows : List Row) → rows ≡ matches_of (taclint_command bounds colors) words
+pub answered : (words : List Text) (bounds shapes colors : Bor (List PossibleValue)) → AreKindsOf sizes bounds.now
+    → AreKindsOf forms shapes.now → AreKindsOf colorings colors.now
+    → (r : Result Options Error) (rows : List Row) → rows ≡ matches_of (taclint_command bounds shapes colors) words
     → IfOk r (NamesOptions rows) → FailsBy (option_kinds rows) r
-    → fault_of (taclint_command bounds colors) words ≡ [] → AnswersWords words r
-answered words bounds colors are_limits are_colorings r rows is named fails faultless = record {
+    → fault_of (taclint_command bounds shapes colors) words ≡ [] → AnswersWords words r
+answered words bounds shapes colors are_limits are_forms are_colorings r rows is named fails faultless = record {
   bounds = bounds;
+  shapes = shapes;
   colors = colors;
   are_limits = are_limits;
+  are_forms = are_forms;
   are_colorings = are_colorings;
   named = subst (λ (x : List Row). IfOk r (NamesOptions x)) is named;
   refused =
       unless_taken _ r _ (subst (λ (x : List Row). IfErr r (λ e. option_kinds x ≡ [] → kind_of e ≡ OutOfMemory)) is (fit_refused (option_kinds rows) r fails));
-  faults = subst (λ (k : Kinds). FailsBy (or_else k (option_kinds (matches_of (taclint_command bounds colors) words))) r) (sym faultless)
+  faults = subst (λ (k : Kinds). FailsBy (or_else k (option_kinds (matches_of (taclint_command bounds shapes colors) words))) r) (sym faultless)
       (subst (λ (x : List Row). FailsBy (option_kinds x) r) is fails);
 }
 
@@ -47,14 +50,17 @@ earlier [] next e (inl memory) = inl memory
 earlier [] next e (inr none) = absurd none
 earlier (k ∷ ks) next e has = has
 
-pub refused : (words : List Text) (bounds colors : Bor (List PossibleValue)) → AreKindsOf sizes bounds.now → AreKindsOf colorings colors.now
-    → (e : Error) → (takes (taclint_command bounds colors) words ≡ true → kind_of e ≡ OutOfMemory)
-    → HasKind (fault_of (taclint_command bounds colors) words) e
+pub refused : (words : List Text) (bounds shapes colors : Bor (List PossibleValue)) → AreKindsOf sizes bounds.now
+    → AreKindsOf forms shapes.now → AreKindsOf colorings colors.now
+    → (e : Error) → (takes (taclint_command bounds shapes colors) words ≡ true → kind_of e ≡ OutOfMemory)
+    → HasKind (fault_of (taclint_command bounds shapes colors) words) e
     → AnswersWords words (Err e)
-refused words bounds colors are_limits are_colorings e passes has = record {
+refused words bounds shapes colors are_limits are_forms are_colorings e passes has = record {
   bounds = bounds;
+  shapes = shapes;
   colors = colors;
   are_limits = are_limits;
+  are_forms = are_forms;
   are_colorings = are_colorings;
   named = tt;
   refused = λ taken _. passes taken;

@@ -11,50 +11,61 @@ use Rattle.flow_runs.specs.Words.{AreKindsOf}
 use Rattle.flow_runs.proofs.matches.HeldValues as lemmas
 use Rattle.flow_runs.proofs.matches.Cases.{other}
 use Rattle.lint_commands.specs.Commands.{taclint_command}
-use Rattle.lint_commands.specs.Kinds.{colorings, sizes}
+use Rattle.lint_commands.specs.Kinds.{colorings, forms, sizes}
 use Rattle.lint_commands.specs.code.Matches.{HoldsOptions}
 
-pub record HasOptions (a : App) (bounds colors : Bor (List PossibleValue)) : Type 0 where
+pub record HasOptions (a : App) (bounds shapes colors : Bor (List PossibleValue)) : Type 0 where
   pub plain : a.top.is_plain ≡ true
   pub limits : lemmas.HasKind a (codes "limits") bounds
+  pub format : lemmas.HasKind a (codes "format") shapes
   pub color : lemmas.HasKind a (codes "color") colors
 
-as_made : (bounds colors : Bor (List PossibleValue)) → HasOptions (taclint_command bounds colors) bounds colors
-as_made bounds colors = record {
-  plain = refl;
-  limits = record {
-    of_kind = (λ _. record { parser = refl; any_case = refl; least = refl; action = refl; simple = refl }, (other, (other, (other, (other, (other, (other, tt)))))));
-    kind_default = refl;
-  };
-  color = record {
-    of_kind = (other, (other, (other, (other, (λ _. record { parser = refl; any_case = refl; least = refl; action = refl; simple = refl }, (other, (other, tt)))))));
-    kind_default = refl;
-  };
-}
-
-as_built : (bounds colors : Bor (List PossibleValue)) → HasOptions (built (taclint_command bounds colors)) bounds colors
-as_built bounds colors = record {
+as_made : (bounds shapes colors : Bor (List PossibleValue)) → HasOptions (taclint_command bounds shapes colors) bounds shapes colors
+as_made bounds shapes colors = record {
   plain = refl;
   limits = record {
     of_kind = (λ _. record { parser = refl; any_case = refl; least = refl; action = refl; simple = refl }, (other, (other, (other, (other, (other, (other, (other, tt))))))));
     kind_default = refl;
   };
+  format = record {
+    of_kind = (other, (other, (other, (λ _. record { parser = refl; any_case = refl; least = refl; action = refl; simple = refl }, (other, (other, (other, (other, tt))))))));
+    kind_default = refl;
+  };
   color = record {
-    of_kind = (other, (other, (other, (other, (λ _. record { parser = refl; any_case = refl; least = refl; action = refl; simple = refl }, (other, (other, (other, tt))))))));
+    of_kind = (other, (other, (other, (other, (other, (λ _. record { parser = refl; any_case = refl; least = refl; action = refl; simple = refl }, (other, (other, tt))))))));
     kind_default = refl;
   };
 }
 
-pub has_options : (bounds colors : Bor (List PossibleValue)) (a : App) → (a ≡ taclint_command bounds colors) ⊎ (a ≡ built (taclint_command bounds colors))
-    → HasOptions a bounds colors
-has_options bounds colors a is = elim is [
-  | inl made ↦ subst (λ (b : App). HasOptions b bounds colors) (sym made) (as_made bounds colors)
-  | inr made ↦ subst (λ (b : App). HasOptions b bounds colors) (sym made) (as_built bounds colors)
+as_built : (bounds shapes colors : Bor (List PossibleValue)) → HasOptions (built (taclint_command bounds shapes colors)) bounds shapes colors
+as_built bounds shapes colors = record {
+  plain = refl;
+  limits = record {
+    of_kind = (λ _. record { parser = refl; any_case = refl; least = refl; action = refl; simple = refl }, (other, (other, (other, (other, (other, (other, (other, (other, tt)))))))));
+    kind_default = refl;
+  };
+  format = record {
+    of_kind = (other, (other, (other, (λ _. record { parser = refl; any_case = refl; least = refl; action = refl; simple = refl }, (other, (other, (other, (other, (other, tt)))))))));
+    kind_default = refl;
+  };
+  color = record {
+    of_kind = (other, (other, (other, (other, (other, (λ _. record { parser = refl; any_case = refl; least = refl; action = refl; simple = refl }, (other, (other, (other, tt)))))))));
+    kind_default = refl;
+  };
+}
+
+pub has_options : (bounds shapes colors : Bor (List PossibleValue)) (a : App)
+    → (a ≡ taclint_command bounds shapes colors) ⊎ (a ≡ built (taclint_command bounds shapes colors)) → HasOptions a bounds shapes colors
+has_options bounds shapes colors a is = elim is [
+  | inl made ↦ subst (λ (b : App). HasOptions b bounds shapes colors) (sym made) (as_made bounds shapes colors)
+  | inr made ↦ subst (λ (b : App). HasOptions b bounds shapes colors) (sym made) (as_built bounds shapes colors)
 ]
 
-pub options_held : (c : Command) (f : Found) (bounds colors : Bor (List PossibleValue)) → HasOptions (app_of c) bounds colors
-    → AreKindsOf sizes bounds.now → AreKindsOf colorings colors.now → ValuesPass c f → HasDefaults c f → HoldsOptions (rows_of f)
-options_held c f bounds colors has are_limits are_colorings passes defaults = record {
+pub options_held : (c : Command) (f : Found) (bounds shapes colors : Bor (List PossibleValue)) → HasOptions (app_of c) bounds shapes colors
+    → AreKindsOf sizes bounds.now → AreKindsOf forms shapes.now → AreKindsOf colorings colors.now → ValuesPass c f → HasDefaults c f
+    → HoldsOptions (rows_of f)
+options_held c f bounds shapes colors has are_limits are_forms are_colorings passes defaults = record {
   limits = lemmas.kind_held sizes c f (codes "limits") bounds (λ e. cc) has.plain has.limits are_limits passes defaults;
+  format = lemmas.kind_held forms c f (codes "format") shapes (λ e. cc) has.plain has.format are_forms passes defaults;
   color = lemmas.kind_held colorings c f (codes "color") colors (λ e. cc) has.plain has.color are_colorings passes defaults;
 }

@@ -2,9 +2,10 @@
 use Rattle.std.specs.Prelude.{List, codes}
 use Rattle.clap.specs.Words.{Row}
 use Rattle.flow_runs.specs.code.Matches.{HoldsKind}
-use Rattle.lint_commands.specs.Kinds.{colorings, sizes}
+use Rattle.lint_commands.specs.Kinds.{colorings, forms, sizes}
 
 -- They hold the options that have a default.
 pub record HoldsOptions (rows : List Row) : Type 0 where
   pub limits : HoldsKind sizes rows (codes "limits")
+  pub format : HoldsKind forms rows (codes "format")
   pub color : HoldsKind colorings rows (codes "color")

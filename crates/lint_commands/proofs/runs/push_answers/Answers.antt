@@ -9,7 +9,7 @@ returns-in-Ok-clause-delivers g c =
     let shown = c.args.shown in
     let linted = c.in_ok-told.told in
     let told : c.told_by-what.result ≡ told_by (has_told shown.telling c.args.graph.now linted) = c.told_by-what.ensures ∙ ap told_by c.tells_any.ensures in
-    told_written _ (Lints (file_text shown.file) shown.telling c.args.graph.now) _ _ c.told_by-what.result
+    told_written _ (Lints shown.form (file_text shown.file) shown.telling c.args.graph.now) _ _ c.told_by-what.result
     (λ out is. record { linted = linted; is_linted = c.in_ok-told.ensures; is_text = is; is_told = told })
     tt c.in-Ok.ensures.delivers
 
@@ -18,6 +18,6 @@ returns-clause-delivers g c =
     let shown = c.args.shown in
     let linted = c.in_ok-told.told in
     let told : c.told_by-what.result ≡ told_by (has_told shown.telling c.args.graph.now linted) = c.told_by-what.ensures ∙ ap told_by c.tells_any.ensures in
-    told_unwritten _ (Lints (file_text shown.file) shown.telling c.args.graph.now) _ _ c.told_by-what.result
+    told_unwritten _ (Lints shown.form (file_text shown.file) shown.telling c.args.graph.now) _ _ c.told_by-what.result
     (λ out is. record { linted = linted; is_linted = c.in_ok-told.ensures; is_text = is; is_told = told })
     c.in-Err.fault c.in-Err.ensures.delivers

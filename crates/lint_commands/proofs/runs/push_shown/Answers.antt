@@ -18,7 +18,7 @@ returns-clause-delivers g c =
       few_bits = made.few_bits;
       procedure = c.args.procedure;
       asked = c.requires.asked;
-      lints = subst (λ (p : Program). Lints (file_text asked.file) telling p what out) made.graph is;
+      lints = subst (λ (p : Program). Lints asked.request.form (file_text asked.file) telling p what out) made.graph is;
     })
     c.push_graph.ensures.delivers
 

@@ -10,10 +10,11 @@ use Rattle.lint_commands.proofs.options.Options.from_words.Goals as goal
 pub named_options-requires : goal.named_options-requires
 named_options-requires c =
     let bounds = c.as_slice.result in
-    let colors = c.as_slice-2.result in
+    let shapes = c.as_slice-2.result in
+    let colors = c.as_slice-3.result in
     let old = c.in_ok-command.ensures in
     let new = c.try_get_matches_from_mut.new.self in
-    let app = taclint_command bounds colors in
+    let app = taclint_command bounds shapes colors in
     let which : (app_of new ≡ app) ⊎ (app_of new ≡ built app) = elim c.in-Ok.ensures.after [
       | inl broken ↦ absurd (c.in-Ok.ensures.fails broken)
       | inr whole ↦ elim whole.2 [
@@ -21,24 +22,30 @@ named_options-requires c =
         | inr now ↦ inr (now (ap is_buildable old) ∙ ap built old)
       ]
     ] in
-    let has = has_options bounds colors (app_of new) which in
+    let has = has_options bounds shapes colors (app_of new) which in
     let parsed = c.in-Ok.ensures.ok.1 (plain_fields new has.plain).globals in
-    options_held new (found_of c.in-Ok.matches) bounds colors has (search rules) (search rules) parsed.values parsed.defaults
+    options_held new (found_of c.in-Ok.matches) bounds shapes colors has (search rules) (search rules) (search rules) parsed.values parsed.defaults
 
 pub returns-in-Ok : goal.returns-in-Ok
 returns-in-Ok c =
+    let bounds = c.as_slice.result in
+    let shapes = c.as_slice-2.result in
+    let colors = c.as_slice-3.result in
     let words = map (λ w. w.now) c.args.words.now in
     let old = c.in_ok-command.ensures in
     let rows = (c.in-Ok.ensures.ok.2 (ap is_simple old)).0 ∙ ap (λ (a : App). matches_of a words) old in
-    answered words c.as_slice.result c.as_slice-2.result (search rules) (search rules)
+    answered words bounds shapes colors (search rules) (search rules) (search rules)
     c.named_options.result (rows_of (found_of c.in-Ok.matches)) rows
     c.named_options.ensures.options c.named_options.ensures.faults
     (sym (ap (λ (a : App). fault_of a words) old) ∙ c.in-Ok.ensures.kinds (ap is_simple_and_free old))
 
 pub returns : goal.returns
 returns c =
+    let bounds = c.as_slice.result in
+    let shapes = c.as_slice-2.result in
+    let colors = c.as_slice-3.result in
     let words = map (λ w. w.now) c.args.words.now in
     let old = c.in_ok-command.ensures in
-    refused words c.as_slice.result c.as_slice-2.result (search rules) (search rules) c.in-Err.error
+    refused words bounds shapes colors (search rules) (search rules) (search rules) c.in-Err.error
     (λ taken. c.in-Err.ensures.passes (ap (λ (a : App). takes a words) old ∙ taken))
     (subst (λ (a : App). HasKind (fault_of a words) c.in-Err.error) old (c.in-Err.ensures.kinds (ap is_simple_and_free old)))
