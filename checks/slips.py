@@ -89,7 +89,7 @@ SLIPS = [
     Slip("int x", "2:5", 4, "`int` declares nothing here"),
     Slip("let x = 1", "2:5", 4, "`let` declares nothing here"),
     Slip("def main\nend", "1:1", 4, "`def` opens no procedure", True),
-    Slip("int main() {\nx = 1\nend", "1:9", 1, "`int` opens no procedure", True),
+    Slip("int main() {\nx = 1\nend", "1:1", 4, "`int` opens no procedure", True),
     Slip("proc main()\nx = 1\nend", "1:10", 1, "`main` has no parameters, since"),
     Slip("while x < 3", "2:7", 4, "`while` is no word of the language: loops"),
     Slip("if x goto L else goto M", "2:13", 4, "`else` is no word of the language: loops"),

@@ -88,6 +88,7 @@ static TEXTS: [Row; 13] = [
         "proc main\nx++\ny = 1 2\nend\n",
         &[
             "a.tac:2:2: error: no line goes on like this from here (refusal 4)",
+            "a.tac:2:2: note: `++` sets no variable: a statement is written `x = y + z`",
             "a.tac:3:7: error: no line goes on like this from here (refusal 4)",
             "a.tac: 2 errors",
         ],

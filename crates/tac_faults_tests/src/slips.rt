@@ -1,6 +1,6 @@
 // Texts with usual slips, each with what is told of it, worked by hand from docs/LANGUAGE.md and the definitions.
 
-use tac_faults::{Bytes, Hint};
+use tac_faults::{Bytes, Hint, Slip};
 use tac_lines::{Keyword, RefusalKind};
 
 /// A fault that is told: its line and column, what it is, and what is told on its mend.
@@ -62,7 +62,12 @@ pub static BYTES: [(&[u8], &[Told]); 16] = [
     ),
     (
         b"proc main() {\nend\n",
-        &[(1, 10, RefusalKind::BadByte, Hint::Parenthesis)],
+        &[(
+            1,
+            10,
+            RefusalKind::BadByte,
+            Hint::Slip(Slip::Parameters, Bytes { start: 5, stop: 9 }),
+        )],
     ),
     (
         b"proc main\nprint \"hi\"\nend\n",
@@ -484,12 +489,34 @@ pub static LINES: [(&[u8], &[Told]); 28] = [
     // `end` closes a procedure though its line is refused; so `proc` may follow.
     (
         b"proc main\nend x\nproc p\nend\n",
-        &[(2, 5, RefusalKind::Syntax, Hint::None)],
+        &[(
+            2,
+            5,
+            RefusalKind::Syntax,
+            Hint::Slip(
+                Slip::OwnLine,
+                Bytes {
+                    start: 14,
+                    stop: 15,
+                },
+            ),
+        )],
     ),
     (
         b"proc main\nx++\ny = 1 2\nend\n",
         &[
-            (2, 2, RefusalKind::Syntax, Hint::None),
+            (
+                2,
+                2,
+                RefusalKind::Syntax,
+                Hint::Slip(
+                    Slip::Assignment,
+                    Bytes {
+                        start: 11,
+                        stop: 13,
+                    },
+                ),
+            ),
             (3, 7, RefusalKind::Syntax, Hint::None),
         ],
     ),
