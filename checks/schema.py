@@ -62,6 +62,9 @@ class Schema:
             known = rule["properties"]
             if set(rule.get("required", [])) - set(value):
                 return f"{at} lacks {sorted(set(rule['required']) - set(value))}"
+            wanted = [set(one["required"]) for one in rule.get("oneOf", [])]
+            if wanted and sum(names <= set(value) for names in wanted) != 1:
+                return f"{at} has not the fields of one form"
             if set(value) - set(known):
                 return f"{at} has {sorted(set(value) - set(known))} besides"
             parts = [(each, known[name], f"{at}.{name}") for name, each in value.items()]

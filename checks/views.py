@@ -1,6 +1,6 @@
 """Tries tacview on each program of examples/. Each line of JSON is parsed, held against
 docs/tacview.schema.json, and compared with what tacflow writes of the same program: tables, report,
-listing and source. Each picture is compared with one that is made of the lines, and goes through
+listing and source; differences give the sets of the other form. Each picture is compared with one that is made of the lines, and goes through
 Graphviz, where `dot` is there. Then the facts of one procedure of a larger program have to do with
 the memory of its points, and the report of a program with many tests and expressions with that of
 the words that have a bit. TACVIEW=/path/to/program and TACFLOW=/path/to/program take other programs
@@ -314,6 +314,74 @@ def check_picture(source: bytes) -> None:
     assert run(TACVIEW, words, source).decode() == wanted, words
 
 
+def names_by_number(program: Row) -> dict[str, list[str]]:
+    """What the bits of each analysis are called, as the first line of differences has them."""
+    definitions, expressions = program["definition_names"], program["expression_names"]
+    assert len(definitions) == program["definitions"], program
+    assert len(expressions) == program["expressions"], program
+    sets = [definitions, program["variables"], expressions, expressions]
+    return dict(zip(ANALYSES, sets))
+
+
+def changed(old: set[int], change: Row) -> set[int]:
+    """The set to which a change leads: what comes was not there, and what goes was."""
+    came, went = change["came"], change["went"]
+    assert came == sorted(set(came)) and went == sorted(set(went)), change
+    assert not old & set(came) and old >= set(went), (old, change)
+    return old - set(went) | set(came)
+
+
+def check_change(point: Row, wanted: Row, points: list[Row], names: dict[str, list[str]]) -> None:
+    """What changes through a statement gives the sets behind it."""
+    calls = (point["statement"] or "call ").startswith("call ")
+    for analysis in ANALYSES:
+        change, facts = point[analysis]["behind"], wanted[analysis]
+        assert (change is None) == calls, (point, analysis)
+        assert facts["names"] == [names[analysis][bit] for bit in facts["bits"]], facts
+        if change is not None:
+            after = changed(set(facts["bits"]), change)
+            told = {names[analysis][bit] for bit in after}
+            assert told == set(behind(wanted, points, analysis)), (point, analysis)
+
+
+def check_changes(source: bytes) -> None:
+    """Differences give the sets of the other form, and the line of very busy expressions what the
+    other form has one by one."""
+    program, points, remarks = objects(source)
+    named, differing, told = objects(source, "--changes")
+    names = names_by_number(named)
+    assert {name: named[name] for name in program} == program, named
+    held: dict[str, set[int]] = {}
+    for point, wanted in zip(differing, points, strict=True):
+        for analysis in ANALYSES:
+            old = held[analysis] if point["place"] else set()
+            held[analysis] = changed(old, point[analysis])
+            assert sorted(held[analysis]) == wanted[analysis]["bits"], (point, analysis)
+            assert point[analysis]["path"] == wanted[analysis]["path"], (point, analysis)
+        check_change(point, wanted, points, names)
+        others = {name: value for name, value in wanted.items() if name not in ANALYSES}
+        assert {name: point[name] for name in others} == others, point
+    assert one_by_one(told, names["busy"]) == remarks, told
+    assert len({row["point"] for row in told if row["kind"] == "busy"}) == sum(
+        row["kind"] == "busy" for row in told
+    ), "one line for a point"
+    assert objects(source, "--changes", "--facts", "none")[2] == remarks
+    for name in program["procedures"]:
+        own = [point for point in differing if point["procedure"] == name]
+        assert objects(source, "--changes", "--procedure", name)[1] == own, name
+
+
+def one_by_one(remarks: list[Row], names: list[str]) -> list[Row]:
+    """Remarks, with one for each very busy expression."""
+    rows = []
+    for remark in remarks:
+        bits = remark.get("expressions", [None])
+        assert bits, remark
+        one = {name: value for name, value in remark.items() if name != "expressions"}
+        rows += [one if bit is None else {**one, "expression": names[bit]} for bit in bits]
+    return rows
+
+
 def check_dot(source: bytes) -> None:
     """Graphviz takes each picture."""
     if not shutil.which("dot"):
@@ -405,6 +473,9 @@ def many_tests() -> bytes:
     return ("\n".join(rows) + "\n").encode()
 
 
+CHECKS = (check_json, check_changes, check_paths, check_picture, check_dot)
+
+
 def main() -> int:
     """Tries all examples, and two larger programs."""
     tries = [
@@ -414,7 +485,7 @@ def main() -> int:
     for name in sorted(name for name in os.listdir(EXAMPLES) if name.endswith(".tac")):
         with open(os.path.join(EXAMPLES, name), "rb") as file:
             source = file.read()
-        tries += [(name, check, source) for check in (check_json, check_paths, check_picture, check_dot)]
+        tries += [(name, check, source) for check in CHECKS]
     passed = failed = 0
     for name, check, source in tries:
         try:

@@ -13,7 +13,7 @@ use Rattle.clap.specs.declared.error.kind.ErrorKind.TheVariants.{ArgumentConflic
 use Rattle.flow_runs.specs.Words.{AreKindsOf, NamesNumber, kind_rule, number_rule}
 use Rattle.flow_views.specs.declared.view.Look.{Look}
 use Rattle.part_texts.specs.Shares.{read_share, some_share}
-use Rattle.view_commands.specs.Kinds.{facts_queried, facts_named, format_named, formats, limits_named, sizes, with_part, with_paths, with_picture}
+use Rattle.view_commands.specs.Kinds.{facts_queried, facts_named, format_named, formats, limits_named, sizes, with_changes, with_part, with_paths, with_picture}
 use Rattle.view_commands.specs.Views.{Request}
 use Rattle.view_commands.specs.declared.options.Format.{Format}
 use Rattle.view_commands.specs.declared.options.Options.{Options}
@@ -26,8 +26,8 @@ text_rule name = record (new_rule name) { long = Some name; value_names = 1; act
 abbrev pub flag_rule : Text → Rule
 flag_rule name = record (new_rule name) { long = Some name; action = Some SetTrue }
 
--- `tacview [--format KIND] [--facts LIST] [--hide-entry] [--facts-behind] [--procedure NAME] [--paths]`, and behind them `[--because PLACE]
--- [--part K/N] [--limits SIZE] [--workers N] [--cut N]`
+-- `tacview [--format KIND] [--facts LIST] [--hide-entry] [--facts-behind] [--procedure NAME] [--paths] [--changes]`, and behind them
+-- `[--because PLACE] [--part K/N] [--limits SIZE] [--workers N] [--cut N]`
 abbrev pub form_command : Bor (List PossibleValue) → App
 form_command values =
     with_rule (with_rule (new_app (codes "tacview")) (kind_rule (codes "format") (codes "dot") values)) (text_rule (codes "facts"))
@@ -36,7 +36,8 @@ abbrev pub look_command : Bor (List PossibleValue) → App
 look_command values = with_rule (with_rule (form_command values) (flag_rule (codes "hide-entry"))) (flag_rule (codes "facts-behind"))
 
 abbrev pub view_command : Bor (List PossibleValue) → App
-view_command values = with_rule (with_rule (look_command values) (text_rule (codes "procedure"))) (flag_rule (codes "paths"))
+view_command values =
+    with_rule (with_rule (with_rule (look_command values) (text_rule (codes "procedure"))) (flag_rule (codes "paths"))) (flag_rule (codes "changes"))
 
 abbrev pub part_command : Bor (List PossibleValue) → App
 part_command values = with_rule (with_rule (view_command values) (text_rule (codes "because"))) (text_rule (codes "part"))
@@ -54,6 +55,10 @@ has_flag name rows = option_map_or (λ word. bytes_eq word (codes "true")) (firs
 abbrev pub has_paths : List Row → Bool
 has_paths rows = has_flag (codes "paths") rows
 
+-- Whether differences are asked for.
+abbrev pub has_changes : List Row → Bool
+has_changes rows = has_flag (codes "changes") rows
+
 -- How a picture is to look.
 abbrev pub look_queried : List Row → Look
 look_queried rows = record { hides_entry = has_flag (codes "hide-entry") rows; behind = has_flag (codes "facts-behind") rows }
@@ -69,11 +74,15 @@ has_picture rows = is_some (first_of (codes "because") rows) || has_look (look_q
 abbrev pub has_part : List Row → Bool
 has_part rows = is_some (first_of (codes "part") rows)
 
--- The format that is asked for, with paths or without, with what pictures alone have or without; None where it has none.
-abbrev pub shown_format : List Row → Option Format
-shown_format rows =
-    option_and_then (with_picture (has_picture rows))
+-- The format that is asked for, with paths or without, with differences or with sets; None where it has none.
+abbrev pub lines_format : List Row → Option Format
+lines_format rows =
+    option_and_then (with_changes (has_changes rows))
     (option_and_then (with_paths (has_paths rows)) (option_and_then format_named (first_of (codes "format") rows)))
+
+-- The same with what pictures alone have or without; None where it has none.
+abbrev pub shown_format : List Row → Option Format
+shown_format rows = option_and_then (with_picture (has_picture rows)) (lines_format rows)
 
 -- The format that is asked for, whole or a part of it; None where it has none.
 abbrev pub format_queried : List Row → Option Format
@@ -131,7 +140,7 @@ knows_facts rows = option_map_or (λ list. is_some (facts_named list)) (first_of
 abbrev pub knows_share : List Row → Bool
 knows_share rows = is_some (known_share (first_of (codes "part") rows))
 
--- The kinds of errors for options that `clap` takes: paths with a format that has none, or what pictures alone have, or a part, and a list
+-- The kinds of errors for options that `clap` takes: paths or differences with a format that has none, or what pictures alone have, or a part, and a list
 -- that names no facts, or words that name no part.
 abbrev pub kinds_of : Bool → Bool → Kinds
 kinds_of false known = ArgumentConflict ∷ []

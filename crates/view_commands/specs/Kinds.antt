@@ -24,7 +24,17 @@ with_paths false format = Some format
 with_paths true format.Dot = None
 with_paths true format.Json = Some format.JsonPaths
 with_paths true format.JsonPaths = Some format.JsonPaths
+with_paths true format.JsonChanges = None
 with_paths true format.Report = None
+
+-- The format with differences in place of sets, where they are asked for: only lines of JSON without paths have them.
+abbrev pub with_changes : Bool → Format → Option Format
+with_changes false format = Some format
+with_changes true format.Dot = None
+with_changes true format.Json = Some format.JsonChanges
+with_changes true format.JsonPaths = None
+with_changes true format.JsonChanges = Some format.JsonChanges
+with_changes true format.Report = None
 
 -- The format, where it fits to what is asked for: pictures alone have it.
 abbrev pub with_picture : Bool → Format → Option Format
@@ -32,6 +42,7 @@ with_picture false format = Some format
 with_picture true format.Dot = Some format.Dot
 with_picture true format.Json = None
 with_picture true format.JsonPaths = None
+with_picture true format.JsonChanges = None
 with_picture true format.Report = None
 
 -- The format, where it fits to what is asked for: a report alone has parts.
@@ -40,6 +51,7 @@ with_part false format = Some format
 with_part true format.Dot = None
 with_part true format.Json = None
 with_part true format.JsonPaths = None
+with_part true format.JsonChanges = None
 with_part true format.Report = Some format.Report
 
 -- The limits with their words.
@@ -88,6 +100,7 @@ abbrev pub facts_by_format : Format → Chosen
 facts_by_format format.Dot = no_facts
 facts_by_format format.Json = all_facts
 facts_by_format format.JsonPaths = all_facts
+facts_by_format format.JsonChanges = all_facts
 facts_by_format format.Report = no_facts
 
 -- The facts that are asked for, by a list or by none.

@@ -1,5 +1,6 @@
 -- What is shown of a program.
 use Rattle.std.specs.Prelude.{◌≡◌, ℕ, List, [], Option, None, Some, slice_get}
+use Rattle.json_texts.specs.Changes.{IsJsonChanges}
 use Rattle.tac_program.specs.Programs.{Program}
 use Rattle.flow_parts.specs.Parts.{IsPart, digest_of}
 use Rattle.flow_paths.specs.Paths.{IsJsonWithPaths}
@@ -52,6 +53,7 @@ abbrev pub IsText : Format → Request → (digest : List ℕ) → Program → V
 IsText format.Dot request digest program view out = IsPicture request.because program view out
 IsText format.Json request digest program view out = IsJson program view out
 IsText format.JsonPaths request digest program view out = IsJsonWithPaths program view out
+IsText format.JsonChanges request digest program view out = IsJsonChanges program view out
 IsText format.Report request digest program view out = IsReportOrPart request.share digest program out
 
 -- what is shown of these procedures

@@ -75,6 +75,6 @@ pub(crate) fn facts_by(format: Format) -> Chosen
 {
     match format {
         Format::Dot | Format::Report => NONE,
-        Format::Json | Format::JsonPaths => ALL,
+        Format::Json | Format::JsonPaths | Format::JsonChanges => ALL,
     }
 }

@@ -17,6 +17,8 @@ pub enum Format {
     Json,
     /// Lines of JSON, with a path for each variable that may be used before it is set.
     JsonPaths,
+    /// Lines of JSON that tell what changes from point to point in place of sets.
+    JsonChanges,
     /// The report on the whole program, or a part of it.
     Report,
 }

@@ -11,6 +11,7 @@ ghost use Rattle.flow_reports.specs.code.Reported.{TellReport};
 ghost use Rattle.flow_views.specs.Dots.{IsDot};
 ghost use Rattle.flow_views.specs.Json.{IsJson};
 ghost use Rattle.flow_views.specs.ViewTables.{AreViewTables};
+ghost use Rattle.json_texts.specs.Changes.{IsJsonChanges};
 ghost use Rattle.flow_parts.specs.Parts.{IsPart};
 ghost use Rattle.view_commands.specs.Commands.{because_queried, name_queried, request_of, share_queried};
 ghost use Rattle.view_commands.specs.Views.{HasProcedure, IsPicture, IsReportOrPart, IsShownBy, IsText, LacksNamed, LacksProcedure};
@@ -26,7 +27,7 @@ use flow_reports::ReportAnswers;
 use flow_runs::{Fault, OutOfMemory, Output, graph_of, push_report, push_text};
 use flow_team::Team;
 use flow_views::{View, ViewTables};
-use json_texts::JsonText;
+use json_texts::{JsonChangesText, JsonText};
 use part_texts::Share;
 use std::alloc::Global;
 use std::thread::Threads;
@@ -197,6 +198,27 @@ fn push_json_paths<R: Threads + Sync, K: Sink>(
     push_text(alloc, &text, sink)
 }
 
+// Writes the lines of JSON with what changes from point to point.
+fn push_json_changes<R: Threads + Sync, K: Sink>(
+    team: &Team<'_, R, Progress>,
+    alloc: Global,
+    graph: &Graph<'_>,
+    view: View,
+    sink: &mut K,
+) -> Result<(), Fault>
+    requires threads { IsSync R.row }
+    requires below { K.faults sink.old < 2 ^ 32 - 1 }
+    requires there { IfSome view.procedure (λ number. number < length graph.now.procedure_names) }
+    ensures delivers { Delivers (λ out. IsJsonChanges graph.now view out) (K.contents sink.old) (K.contents sink.new) result }
+    ensures flushed { OnOk result (K.flushed sink.new ≡ true) }
+    ensures fault { IfErr result (OfProgram (λ _. ⊥) ⊥ ⊥) }
+    ensures faults { K.faults sink.new ≡ K.faults sink.old + write_faults_in result }
+{
+    let (tables, answers) = tables_and_answers(team, alloc, graph, view)?;
+    let text = JsonChangesText::of(alloc, graph, &tables, &answers, view)?;
+    push_text(alloc, &text, sink)
+}
+
 // Writes a part of the report.
 fn push_part<R: Threads + Sync, K: Sink>(
     team: &Team<'_, R, Progress>,
@@ -271,6 +293,7 @@ fn view_of_graph<R: Threads + Sync, K: Sink>(
         Format::Dot => push_picture(team, alloc, graph, view, options, sink),
         Format::Json => push_json(team, alloc, graph, view, sink),
         Format::JsonPaths => push_json_paths(team, alloc, graph, view, sink),
+        Format::JsonChanges => push_json_changes(team, alloc, graph, view, sink),
         Format::Report => push_report_or_part(team, alloc, graph, shown.digest, options, sink),
     }
 }

@@ -6,11 +6,12 @@ ghost use Rattle.clap.specs.Words.{FailsBy, app_of, first_of, found_of, rows_of,
 ghost use Rattle.flow_runs.specs.Words.{AreKindsOf, kind_rule};
 ghost use Rattle.flow_runs.specs.code.Matches.{HoldsKind};
 ghost use Rattle.part_texts.specs.Shares.{some_share};
-ghost use Rattle.view_commands.specs.Commands.{AnswersWords, NamesOptions, flag_rule, format_queried, has_flag, has_look, has_part, has_paths, has_picture};
+ghost use Rattle.view_commands.specs.Commands.{AnswersWords, NamesOptions, flag_rule, format_queried, has_flag, has_look, has_part};
+ghost use Rattle.view_commands.specs.Commands.{has_paths, has_picture, lines_format};
 ghost use Rattle.view_commands.specs.Commands.{knows_facts, look_command, look_queried};
 ghost use Rattle.view_commands.specs.Commands.{form_command, known_share, knows_share, option_kinds, part_command, shown_format};
 ghost use Rattle.view_commands.specs.Commands.{tacview_command, text_rule, view_command};
-ghost use Rattle.view_commands.specs.Kinds.{with_part, with_paths, with_picture, facts_queried, format_named, formats as known_formats, limits_named, sizes as known_sizes};
+ghost use Rattle.view_commands.specs.Kinds.{with_changes, with_part, with_paths, with_picture, facts_queried, format_named, formats as known_formats, limits_named, sizes as known_sizes};
 ghost use Rattle.view_commands.specs.code.Matches.{HoldsOptions};
 
 use crate::facts::{facts_by, facts_of};
@@ -34,6 +35,7 @@ const AFTER_HELP: &str =
     tacview --facts reach --hide-entry --facts-behind < program.tac | dot -Tsvg > sets.svg\n  \
     tacview --because 12:x < program.tac | dot -Tsvg > path.svg\n  \
     tacview --format json --facts none --paths < program.tac\n  \
+    tacview --format json --changes < program.tac\n  \
     tacview --format report --limits large < program.tac\n  \
     tacview --format report --part 1/4 < program.tac > part1\n  \
     tacview --merge part1 part2 part3 part4\n\nExit status:\n  \
@@ -46,7 +48,7 @@ const NO_VALUE: &str =
     the number of a part, from 1 on, a slash, and of how many parts, at most 4096";
 
 const NO_FORMAT: &str =
-    "'--paths' goes with '--format json' alone, '--because', '--hide-entry' and '--facts-behind' with '--format dot', and '--part' with '--format report'";
+    "'--paths' and '--changes' go with '--format json' alone, and not together, '--because', '--hide-entry' and '--facts-behind' with '--format dot', and '--part' with '--format report'";
 
 fn format_of(word: &str) -> Option<Format>
     ensures { result ≡ format_named word.now }
@@ -164,6 +166,18 @@ fn paths_option<'a>(alloc: Global) -> Arg<'a>
         )
 }
 
+fn changes_option<'a>(alloc: Global) -> Arg<'a>
+    ensures rule { rule_of result ≡ flag_rule (codes "changes") }
+    ensures own { result.global ≡ false }
+{
+    Arg::new(alloc, "changes")
+        .long("changes")
+        .action(ArgAction::SetTrue)
+        .help(
+            "With --format json: what changes from point to point, by number, in place of each set",
+        )
+}
+
 fn because_option<'a>(alloc: Global) -> Arg<'a>
     ensures rule { rule_of result ≡ text_rule (codes "because") }
     ensures own { result.global ≡ false }
@@ -238,7 +252,8 @@ fn view_command<'a>(
 {
     look_command(alloc, formats)?
         .arg(procedure_option(alloc))?
-        .arg(paths_option(alloc))
+        .arg(paths_option(alloc))?
+        .arg(changes_option(alloc))
 }
 
 // The command with the options of the path that is marked, and of the part.
@@ -295,6 +310,23 @@ fn with_paths(is: bool, format: Format) -> Option<Format>
         Format::Dot => None,
         Format::Json => Some(Format::JsonPaths),
         Format::JsonPaths => Some(Format::JsonPaths),
+        Format::JsonChanges => None,
+        Format::Report => None,
+    }
+}
+
+// The format with differences, where they are asked for. None where it has none.
+fn with_changes(is: bool, format: Format) -> Option<Format>
+    ensures { result ≡ with_changes is format }
+{
+    if !is {
+        return Some(format);
+    }
+    match format {
+        Format::Dot => None,
+        Format::Json => Some(Format::JsonChanges),
+        Format::JsonPaths => None,
+        Format::JsonChanges => Some(Format::JsonChanges),
         Format::Report => None,
     }
 }
@@ -337,6 +369,7 @@ fn with_picture(is: bool, format: Format) -> Option<Format>
         Format::Dot => Some(Format::Dot),
         Format::Json => None,
         Format::JsonPaths => None,
+        Format::JsonChanges => None,
         Format::Report => None,
     }
 }
@@ -371,7 +404,19 @@ fn with_part(is: bool, format: Format) -> Option<Format>
         Format::Dot => None,
         Format::Json => None,
         Format::JsonPaths => None,
+        Format::JsonChanges => None,
         Format::Report => Some(Format::Report),
+    }
+}
+
+// The format with paths or differences or without, as it was asked for. None where it has none, and they were asked for.
+fn format_with_changes(matches: &ArgMatches<'_>) -> Option<Format>
+    requires { HoldsKind known_formats (rows_of (found_of matches.now)) (codes "format") }
+    ensures { result ≡ lines_format (rows_of (found_of matches.now)) }
+{
+    match format_with_paths(matches) {
+        Some(format) => with_changes(has_flag(matches, "changes"), format),
+        None => None,
     }
 }
 
@@ -380,7 +425,7 @@ fn shown_format(matches: &ArgMatches<'_>) -> Option<Format>
     requires { HoldsKind known_formats (rows_of (found_of matches.now)) (codes "format") }
     ensures { result ≡ shown_format (rows_of (found_of matches.now)) }
 {
-    match format_with_paths(matches) {
+    match format_with_changes(matches) {
         Some(format) => with_picture(has_picture(matches), format),
         None => None,
     }
@@ -518,12 +563,12 @@ fn named_options(
 
 impl Options {
     /// The options that the program's words name, of which the first is the program's own name:
-    /// `tacview [--format KIND] [--facts LIST] [--hide-entry] [--facts-behind] [--procedure NAME] [--paths] [--because PLACE] [--part K/N]
-    /// [--limits SIZE] [--workers N] [--cut N]`. Without an option stands its default: `dot`, no facts for it and all for `json`, with entries
-    /// and none behind, all procedures, no paths, no path that is marked, the whole report, `standard`, 1 and 64.
+    /// `tacview [--format KIND] [--facts LIST] [--hide-entry] [--facts-behind] [--procedure NAME] [--paths] [--changes] [--because PLACE]
+    /// [--part K/N] [--limits SIZE] [--workers N] [--cut N]`. Without an option stands its default: `dot`, no facts for it and all for `json`, with entries
+    /// and none behind, all procedures, no paths, sets and no differences, no path that is marked, the whole report, `standard`, 1 and 64.
     ///
-    /// Refuses words that the command does not take, a number outside its range, a word that is no format or no limits, paths with a
-    /// format other than `json`, a path that is marked or a look with one other than `dot`, a part with one other than `report`, a list that
+    /// Refuses words that the command does not take, a number outside its range, a word that is no format or no limits, paths or differences
+    /// with a format other than `json` or both together, a path that is marked or a look with one other than `dot`, a part with one other than `report`, a list that
     /// names no facts and words that name no part among them, and a call for help; or memory was refused.
     pub fn from_words<'a>(alloc: Global, words: &'a [&'a str]) -> Result<Options, Error>
         ensures { AnswersWords (map (λ w. w.now) words.entry.now) result }

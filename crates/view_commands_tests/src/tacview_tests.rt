@@ -22,14 +22,14 @@ pub(crate) const NONE: Chosen = Chosen {
     busy: false,
 };
 
-const ALL: Chosen = Chosen {
+pub(crate) const ALL: Chosen = Chosen {
     reach: true,
     live: true,
     avail: true,
     busy: true,
 };
 
-const REACH: Chosen = Chosen {
+pub(crate) const REACH: Chosen = Chosen {
     reach: true,
     live: false,
     avail: false,
@@ -543,6 +543,11 @@ fn words_that_are_taken(rt: HostRuntime) -> Result<(), Fail> {
     assert!(rt; facts == ALL && format == Format::Json);
     let (_, _, format, facts) = named_by(rt.alloc(), &["tacview", "--format", "json", "--paths"])?;
     assert!(rt; facts == ALL && format == Format::JsonPaths);
+    let (_, _, format, facts) = named_by(
+        rt.alloc(),
+        &["tacview", "--format", "json", "--changes"],
+    )?;
+    assert!(rt; facts == ALL && format == Format::JsonChanges);
     let (_, _, format, facts) = named_by(rt.alloc(), &["tacview", "--format", "report"])?;
     assert!(rt; facts == NONE && format == Format::Report);
     let (workers, cut, _, facts) = named_by(rt.alloc(), ALL_WORDS)?;
@@ -567,10 +572,12 @@ const LOOKS: &[(&[&str], bool, bool)] = &[
     ),
 ];
 
-// Looks go with pictures alone.
+// Looks go with pictures alone, and differences not with paths.
 const NO_LOOKS: &[&[&str]] = &[
     &["tacview", "--format=json", "--hide-entry"],
     &["tacview", "--format=json", "--paths", "--facts-behind"],
+    &["tacview", "--format=json", "--changes", "--facts-behind"],
+    &["tacview", "--format=json", "--changes", "--paths"],
     &[
         "tacview",
         "--format=report",
@@ -711,6 +718,9 @@ const REFUSED_WORDS: &[[&str; 3]] = &[
     ["tacview", "--paths", "--format=dot"],
     ["tacview", "--format=report", "--paths"],
     ["tacview", "--format=json", "--paths=yes"],
+    ["tacview", "--facts=all", "--changes"],
+    ["tacview", "--changes", "--format=dot"],
+    ["tacview", "--format=report", "--changes"],
     ["tacview", "--because=3", "--format=json"],
     ["tacview", "--format=report", "--because=3"],
     ["tacview", "--because=3", "--because=3"],

@@ -10,9 +10,9 @@ returns-in-Some c =
     let rows = rows_of (found_of c.args.matches.now) in
     c.with_picture.ensures
     ∙ ap (λ is. with_picture is c.in-Some.format) c.has_picture.ensures
-    ∙ ap (option_and_then (with_picture (has_picture rows))) (sym (sym c.format_with_paths.ensures ∙ c.in-Some.is))
+    ∙ ap (option_and_then (with_picture (has_picture rows))) (sym (sym c.format_with_changes.ensures ∙ c.in-Some.is))
 
 pub returns-in-None : goal.returns-in-None
 returns-in-None c =
     let rows = rows_of (found_of c.args.matches.now) in
-    ap (option_and_then (with_picture (has_picture rows))) (sym (sym c.format_with_paths.ensures ∙ c.in-None.is))
+    ap (option_and_then (with_picture (has_picture rows))) (sym (sym c.format_with_changes.ensures ∙ c.in-None.is))

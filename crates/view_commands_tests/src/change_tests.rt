@@ -1,0 +1,157 @@
+// What changes from point to point in small programs, by hand.
+
+use crate::tacview_tests::{ALL, NONE, Queried, REACH, options, run_to_page};
+use flow_views::Chosen;
+use std::process::Abort;
+use std::test::Fail;
+use std::thread::Threads;
+use tac_program::Limits;
+use test_support::failing_streams::blank_page;
+use test_support::worked_programs::TEAMS;
+use view_commands::Format;
+
+// Expressions alone.
+const EXPRESSIONS: Chosen = Chosen {
+    reach: false,
+    live: false,
+    avail: true,
+    busy: true,
+};
+
+const WHOLE: Queried<'static> = Queried {
+    limits: Limits::Standard,
+    format: Format::JsonChanges,
+    facts: ALL,
+    procedure: None,
+    because: None,
+};
+
+const EXPRESSIONS_OF_F: Queried<'static> = Queried {
+    limits: Limits::Standard,
+    format: Format::JsonChanges,
+    facts: EXPRESSIONS,
+    procedure: Some("f"),
+    because: None,
+};
+
+const REACH_OF_MAIN: Queried<'static> = Queried {
+    limits: Limits::Standard,
+    format: Format::JsonChanges,
+    facts: REACH,
+    procedure: Some("main"),
+    because: None,
+};
+
+const REMARKS: Queried<'static> = Queried {
+    limits: Limits::Standard,
+    format: Format::JsonChanges,
+    facts: NONE,
+    procedure: None,
+    because: None,
+};
+
+// A test, from which both ways evaluate `a + b`, in a procedure that is called once.
+const BUSY: &str =
+    "proc main\nread a\nread b\ncall f\nend\nproc f\nif a goto L\nx = a + b\nL:\ny = a + b\nend\n";
+
+// Texts, and how their lines end: but for the last text all lines stand there.
+const ENDS: &[(&str, Queried<'static>, &str)] = &[
+    // All that holds at the first point came there.
+    (
+        "proc main\nL: x = 1\nend\n",
+        WHOLE,
+        "{\"type\":\"program\",\"version\":1,\"points\":2,\"procedures\":[\"main\"],\"variables\":[\"x\"],\"definitions\":2,\
+        \"expressions\":0,\"definition_names\":[\"x@entry\",\"x@2\"],\"expression_names\":[]}\n\
+        {\"type\":\"point\",\"point\":0,\"procedure\":\"main\",\"place\":0,\"line\":2,\"first\":14,\"last\":18,\"labels\":[\"L\"],\
+        \"statement\":\"x = 1\",\"doubtful\":false,\"edges\":[{\"kind\":\"step\",\"to\":1}],\"reach\":{\"path\":true,\"came\":[0],\
+        \"went\":[],\"behind\":{\"came\":[1],\"went\":[0]}},\"live\":{\"path\":true,\"came\":[],\"went\":[],\"behind\":{\"came\":[],\
+        \"went\":[]}},\"avail\":{\"path\":true,\"came\":[],\"went\":[],\"behind\":{\"came\":[],\"went\":[]}},\"busy\":{\"path\":true,\
+        \"came\":[],\"went\":[],\"behind\":{\"came\":[],\"went\":[]}}}\n\
+        {\"type\":\"point\",\"point\":1,\"procedure\":\"main\",\"place\":1,\"line\":null,\"first\":null,\"last\":null,\"labels\":[],\
+        \"statement\":null,\"doubtful\":false,\"edges\":[],\"reach\":{\"path\":true,\"came\":[1],\"went\":[0],\"behind\":null},\
+        \"live\":{\"path\":true,\"came\":[],\"went\":[],\"behind\":null},\"avail\":{\"path\":true,\"came\":[],\"went\":[],\
+        \"behind\":null},\"busy\":{\"path\":true,\"came\":[],\"went\":[],\"behind\":null}}\n\
+        {\"type\":\"remark\",\"point\":0,\"line\":2,\"first\":14,\"last\":18,\"kind\":\"dead\",\"variable\":\"x\"}\n\
+        {\"type\":\"end\",\"points\":2}\n",
+    ),
+    // The expression is evaluated on one way to line 10, and is very busy until there. Its remark stands in one line for the test.
+    (
+        BUSY,
+        EXPRESSIONS_OF_F,
+        "{\"type\":\"program\",\"version\":1,\"points\":8,\"procedures\":[\"main\",\"f\"],\"variables\":[\"a\",\"b\",\"x\",\"y\"],\
+        \"definitions\":8,\"expressions\":1,\"definition_names\":[\"a@entry\",\"b@entry\",\"x@entry\",\"y@entry\",\"a@2\",\"b@3\",\
+        \"x@8\",\"y@10\"],\"expression_names\":[\"a + b\"]}\n\
+        {\"type\":\"point\",\"point\":4,\"procedure\":\"f\",\"place\":0,\"line\":7,\"first\":43,\"last\":53,\"labels\":[],\
+        \"statement\":\"if a goto L\",\"doubtful\":false,\"edges\":[{\"kind\":\"step\",\"to\":5,\"when\":false},{\"kind\":\"step\",\
+        \"to\":6,\"when\":true}],\"avail\":{\"path\":true,\"came\":[],\"went\":[],\"behind\":{\"came\":[],\"went\":[]}},\
+        \"busy\":{\"path\":true,\"came\":[0],\"went\":[],\"behind\":{\"came\":[],\"went\":[]}}}\n\
+        {\"type\":\"point\",\"point\":5,\"procedure\":\"f\",\"place\":1,\"line\":8,\"first\":55,\"last\":63,\"labels\":[],\
+        \"statement\":\"x = a + b\",\"doubtful\":false,\"edges\":[{\"kind\":\"step\",\"to\":6}],\"avail\":{\"path\":true,\"came\":[],\
+        \"went\":[],\"behind\":{\"came\":[0],\"went\":[]}},\"busy\":{\"path\":true,\"came\":[],\"went\":[],\"behind\":{\"came\":[],\
+        \"went\":[]}}}\n\
+        {\"type\":\"point\",\"point\":6,\"procedure\":\"f\",\"place\":2,\"line\":10,\"first\":68,\"last\":76,\"labels\":[\"L\"],\
+        \"statement\":\"y = a + b\",\"doubtful\":false,\"edges\":[{\"kind\":\"step\",\"to\":7}],\"avail\":{\"path\":true,\"came\":[],\
+        \"went\":[],\"behind\":{\"came\":[0],\"went\":[]}},\"busy\":{\"path\":true,\"came\":[],\"went\":[],\"behind\":{\"came\":[],\
+        \"went\":[0]}}}\n\
+        {\"type\":\"point\",\"point\":7,\"procedure\":\"f\",\"place\":3,\"line\":null,\"first\":null,\"last\":null,\"labels\":[],\
+        \"statement\":null,\"doubtful\":false,\"edges\":[{\"kind\":\"return\",\"site\":2,\"to\":3}],\"avail\":{\"path\":true,\
+        \"came\":[0],\"went\":[],\"behind\":null},\"busy\":{\"path\":true,\"came\":[],\"went\":[0],\"behind\":null}}\n\
+        {\"type\":\"remark\",\"point\":4,\"line\":7,\"first\":43,\"last\":53,\"kind\":\"busy\",\"expressions\":[0]}\n\
+        {\"type\":\"remark\",\"point\":5,\"line\":8,\"first\":55,\"last\":63,\"kind\":\"dead\",\"variable\":\"x\"}\n\
+        {\"type\":\"remark\",\"point\":6,\"line\":10,\"first\":68,\"last\":76,\"kind\":\"dead\",\"variable\":\"y\"}\n\
+        {\"type\":\"end\",\"points\":4}\n",
+    ),
+    // A call has no change of its own: what its callee leaves comes at the next point.
+    (
+        BUSY,
+        REACH_OF_MAIN,
+        "{\"type\":\"program\",\"version\":1,\"points\":8,\"procedures\":[\"main\",\"f\"],\"variables\":[\"a\",\"b\",\"x\",\"y\"],\
+        \"definitions\":8,\"expressions\":1,\"definition_names\":[\"a@entry\",\"b@entry\",\"x@entry\",\"y@entry\",\"a@2\",\"b@3\",\
+        \"x@8\",\"y@10\"],\"expression_names\":[\"a + b\"]}\n\
+        {\"type\":\"point\",\"point\":0,\"procedure\":\"main\",\"place\":0,\"line\":2,\"first\":11,\"last\":16,\"labels\":[],\
+        \"statement\":\"read a\",\"doubtful\":false,\"edges\":[{\"kind\":\"step\",\"to\":1}],\"reach\":{\"path\":true,\"came\":[0,1,\
+        2,3],\"went\":[],\"behind\":{\"came\":[4],\"went\":[0]}}}\n\
+        {\"type\":\"point\",\"point\":1,\"procedure\":\"main\",\"place\":1,\"line\":3,\"first\":18,\"last\":23,\"labels\":[],\
+        \"statement\":\"read b\",\"doubtful\":false,\"edges\":[{\"kind\":\"step\",\"to\":2}],\"reach\":{\"path\":true,\"came\":[4],\
+        \"went\":[0],\"behind\":{\"came\":[5],\"went\":[1]}}}\n\
+        {\"type\":\"point\",\"point\":2,\"procedure\":\"main\",\"place\":2,\"line\":4,\"first\":25,\"last\":30,\"labels\":[],\
+        \"statement\":\"call f\",\"doubtful\":false,\"edges\":[{\"kind\":\"call\",\"site\":2,\"to\":4}],\"reach\":{\"path\":true,\
+        \"came\":[5],\"went\":[1],\"behind\":null}}\n\
+        {\"type\":\"point\",\"point\":3,\"procedure\":\"main\",\"place\":3,\"line\":null,\"first\":null,\"last\":null,\"labels\":[],\
+        \"statement\":null,\"doubtful\":false,\"edges\":[],\"reach\":{\"path\":true,\"came\":[6,7],\"went\":[3],\"behind\":null}}\n\
+        {\"type\":\"end\",\"points\":4}\n",
+    ),
+    // Without facts each remark has a line of its own.
+    (
+        BUSY,
+        REMARKS,
+        "{\"type\":\"remark\",\"point\":4,\"line\":7,\"first\":43,\"last\":53,\"kind\":\"busy\",\"expression\":\"a + b\"}\n\
+        {\"type\":\"remark\",\"point\":5,\"line\":8,\"first\":55,\"last\":63,\"kind\":\"dead\",\"variable\":\"x\"}\n\
+        {\"type\":\"remark\",\"point\":6,\"line\":10,\"first\":68,\"last\":76,\"kind\":\"dead\",\"variable\":\"y\"}\n\
+        {\"type\":\"end\",\"points\":8}\n",
+    ),
+];
+
+// Whether the lines of a text end so, by a team.
+fn ends_so<R: Threads + Sync + Abort + AllocGlobal>(
+    rt: &R,
+    text: &str,
+    queried: Queried<'_>,
+    team: (u32, u32),
+    end: &str,
+) -> Result<bool, Fail> {
+    let options = options(rt.alloc(), queried, team).ok_or("options")?;
+    let mut page = blank_page(rt.alloc());
+    let answered = run_to_page(rt, text.as_bytes(), &mut page, &options);
+    Ok(answered.is_ok() && page.taken.as_slice().ends_with(end.as_bytes()))
+}
+
+#[test]
+fn changes_of_sets(rt: HostRuntime) -> Result<(), Fail> {
+    for (text, queried, end) in ENDS {
+        for team in TEAMS {
+            assert!(rt; ends_so(&rt, text, *queried, *team, end)?);
+        }
+    }
+    Ok(())
+}
