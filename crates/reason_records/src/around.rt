@@ -14,8 +14,8 @@ ghost use Rattle.flow_records.specs.Rooms.{HoldsList, IsListKept};
 
 use flow_graph::{Analysis, Graph, OutOfMemory};
 use flow_kept::Kept;
-use flow_records::{Fault, NumberedRemark, put_list};
 use flow_reasons::Reasons;
+use flow_records::{Fault, NumberedRemark, put_list};
 use flow_reports::Remark;
 use std::alloc::Global;
 
