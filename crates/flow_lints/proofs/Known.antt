@@ -9,7 +9,7 @@ use Rattle.flow_lints.specs.Lints.{IsFirstOf, LintKnowledge, by_executions, dead
 use Rattle.flow_lints.specs.Lints.{is_left_out, kept_at, left_out_of, lints_at, lints_of, lints_placed_at, uncalled_at, unreached_at}
 use Rattle.flow_lints.specs.code.Lints.{is_unread}
 use Rattle.flow_lints.specs.declared.lint.Lint.TheVariants.{NeverCalled, Told}
-use Rattle.flow_reports.specs.Reports.{assigned}
+use Rattle.report_answers.specs.Statements.{assigned}
 use Rattle.flow_reports.specs.declared.remark.Remark.TheVariants.{NeverReached, Dead}
 use Rattle.flow_reports.proofs.knowledge.KnownReports.{Agree, same_dead, same_remarks}
 use Rattle.tac_program.specs.Programs.{Program}

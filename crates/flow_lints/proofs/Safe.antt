@@ -17,12 +17,14 @@ use Rattle.flow_lints.specs.declared.found.LintFindings.{LintFindings}
 use Rattle.flow_lints.specs.declared.lint.Lint.TheVariants.{NeverCalled, Told}
 use Rattle.flow_lints.specs.declared.lint.Linted.{Linted}
 use Rattle.flow_lints.proofs.Known.{SameLints, same_first, same_left_out, same_lints}
-use Rattle.flow_reports.specs.Reports.{IsListedDead, Knowledge, assigned, busy_at, computed_at, dead_at, remarks_at, remarks_when_reached, unset_at}
+use Rattle.flow_reports.specs.Reports.{IsListedDead, Knowledge, busy_at, computed_at, dead_at, remarks_at, remarks_when_reached, unset_at}
+use Rattle.report_answers.specs.Statements.{assigned}
 use Rattle.flow_reports.specs.code.Findings.{TellDoubtful}
 use Rattle.flow_reports.specs.declared.remark.Remark.{Remark}
 use Rattle.flow_reports.specs.declared.remark.Remark.TheVariants.{NeverReached, Unset, Computed, VeryBusy, Dead}
 use Rattle.flow_reports.proofs.knowledge.KnownReports.{agrees, all_is_known, all_known}
-use Rattle.flow_reports.proofs.knowledge.RemarkLines.{assigned_there, dead_is, next_below}
+use Rattle.flow_reports.proofs.knowledge.RemarkLines.{dead_is}
+use Rattle.report_answers.proofs.queries.Statements.{assigned_there, next_below}
 use Rattle.tac_program.specs.Programs.{Program}
 use Rattle.tac_program.specs.Sound.{IsSound}
 use Rattle.tac_program.specs.declared.program.StmtKind.{StmtKind}

@@ -8,8 +8,10 @@ use Rattle.flow_graph.proofs.places.Standing.{stands}
 use Rattle.flow_lints.specs.Lints.{LintKnowledge, by_executions}
 use Rattle.flow_lints.specs.code.Lints.{AreLintFindings, is_unread}
 use Rattle.flow_lints.specs.declared.found.LintFindings.{LintFindings}
-use Rattle.flow_reports.specs.Reports.{Knowledge, assigned, dead_at}
-use Rattle.flow_reports.proofs.knowledge.RemarkLines.{next_below, some_if}
+use Rattle.flow_reports.specs.Reports.{Knowledge, dead_at}
+use Rattle.report_answers.specs.Statements.{assigned}
+use Rattle.flow_reports.proofs.knowledge.RemarkLines.{some_if}
+use Rattle.report_answers.proofs.queries.Statements.{next_below}
 use Rattle.tac_program.specs.Programs.{Program}
 use Rattle.tac_program.specs.declared.program.StmtKind.{StmtKind}
 use Rattle.tac_program.specs.declared.program.StmtKind.TheVariants as kind

@@ -7,8 +7,9 @@ ghost use Rattle.flow_lints.specs.Lints.{is_left_out, is_reached, left_out_of, l
 ghost use Rattle.flow_lints.specs.code.Lints.{AreLintFindings, all_told, behind, front, is_unread, lint_knowledge_of, told};
 ghost use Rattle.flow_lints.specs.declared.lint.Lint.TheVariants.{NeverCalled, Told};
 ghost use Rattle.flow_reports.specs.Listed.{placed_at, remarks_of};
-ghost use Rattle.flow_reports.specs.Reports.{assigned, dead_at, remarks_at};
-ghost use Rattle.flow_reports.specs.code.Reported.{TellReport};
+ghost use Rattle.flow_reports.specs.Reports.{dead_at, remarks_at};
+ghost use Rattle.report_answers.specs.Statements.{assigned};
+ghost use Rattle.report_answers.specs.code.Reported.{TellReport};
 ghost use Rattle.text_pieces.specs.code.Lists.{some_stand};
 ghost use Rattle.flow_reports.specs.declared.remark.Remark.TheVariants.{Dead};
 
@@ -16,7 +17,8 @@ use crate::found::LintFindings;
 use crate::lint::{Lint, Linted, PlacedLint};
 use crate::{OutOfMemory, doubt};
 use flow_graph::{Graph, target};
-use flow_reports::{Findings, PlacedRemark, Remark, ReportAnswers};
+use flow_reports::{Findings, PlacedRemark, Remark};
+use report_answers::ReportAnswers;
 use std::alloc::Global;
 use tac_program::StmtKind;
 

@@ -14,13 +14,14 @@ use Rattle.tac_program.specs.Sound.{IsSound}
 use Rattle.tac_program.specs.declared.program.StmtKind.{StmtKind}
 use Rattle.flow_texts.specs.Tables.{bits_at}
 use Rattle.flow_reports.specs.Listed.{placed_at}
-use Rattle.flow_reports.specs.Reports.{Knowledge, assigned, busy_at, computed_at, dead_at, is_test, remarks_at, remarks_when_reached, unset_at}
-use Rattle.flow_reports.specs.declared.chosen_bits.ChosenBits.{ChosenBits}
+use Rattle.flow_reports.specs.Reports.{Knowledge, busy_at, computed_at, dead_at, remarks_at, remarks_when_reached, unset_at}
+use Rattle.report_answers.specs.Statements.{assigned, is_test}
+use Rattle.report_answers.specs.declared.chosen_bits.ChosenBits.{ChosenBits}
 use Rattle.flow_reports.specs.declared.listed.PlacedRemark.{PlacedRemark}
 use Rattle.flow_reports.specs.declared.remark.Remark.{Remark}
 use Rattle.flow_reports.specs.declared.remark.Remark.TheVariants.{NeverReached, Unset, Computed, VeryBusy, Dead}
 use Rattle.flow_reports.proofs.knowledge.KnownReports.{AgreeOn}
-use Rattle.flow_reports.proofs.knowledge.RemarkLines.{next_below}
+use Rattle.report_answers.proofs.queries.Statements.{next_below}
 use Rattle.flow_parts.specs.Cuts.{is_in_cut, is_in_part}
 use Rattle.flow_parts.specs.code.Bits.{AreOfPart}
 use Rattle.flow_parts.specs.Parts.{part_remarks}

@@ -12,13 +12,14 @@ use Rattle.flow_graph.proofs.places.Standing.{stands}
 use Rattle.tac_program.specs.Programs.{Program}
 use Rattle.tac_program.specs.Sound.{IsSound}
 use Rattle.tac_program.specs.declared.program.StmtKind.{StmtKind}
-use Rattle.flow_reports.specs.Reports.{Knowledge, assigned, busy_at, computed_at, dead_at, remarks_at, remarks_when_reached, unset_at}
+use Rattle.flow_reports.specs.Reports.{Knowledge, busy_at, computed_at, dead_at, remarks_at, remarks_when_reached, unset_at}
+use Rattle.report_answers.specs.Statements.{assigned}
 use Rattle.flow_reports.specs.Listed.{placed_at, remarks_of}
 use Rattle.flow_reports.specs.declared.listed.PlacedRemark.{PlacedRemark}
 use Rattle.flow_reports.specs.declared.remark.Remark.{Remark}
 use Rattle.flow_reports.specs.declared.remark.Remark.TheVariants.{NeverReached, Unset, Computed, VeryBusy, Dead}
-use Rattle.flow_reports.proofs.knowledge.KnownReports.{evaluated_there}
-use Rattle.flow_reports.proofs.knowledge.RemarkLines.{assigned_there}
+use Rattle.report_answers.proofs.queries.Statements.{evaluated_there}
+use Rattle.report_answers.proofs.queries.Statements.{assigned_there}
 use Rattle.part_texts.proofs.Rising.{Below, Rises}
 use Rattle.flow_parts.specs.Cuts.{is_in_cut, is_in_part}
 use Rattle.flow_parts.specs.PartLaws.{PartsAreTheReport, is_of, kind_of}

@@ -9,10 +9,9 @@ ghost use Rattle.flow_parts.specs.Cuts.{cut_end, groups_of, is_in_cut, is_in_par
 ghost use Rattle.flow_parts.specs.code.Bits.{AreOfPart};
 
 use flow_graph::{Analysis, Graph};
-use flow_reports::{
-    ChosenBits, ChosenForm, Findings, Remark, WordRange, words_before_name, words_behind_name,
-};
+use flow_reports::{ChosenForm, Findings, Remark, words_before_name, words_behind_name};
 use flow_texts::{line, write_number};
+use report_answers::{ChosenBits, WordRange};
 use text_pieces::{Pieces, Sink};
 
 /// A part of so many.

@@ -3,7 +3,7 @@
 ghost use Rattle.std.specs.Prelude.{◌≡◌, ◌≤◌, ◌++◌, IfOk, decimal};
 ghost use Rattle.flow_reports.specs.Reports.{count_line};
 ghost use Rattle.flow_reports.specs.code.Findings.{AreChosenFindings, knowledge_of};
-ghost use Rattle.flow_reports.specs.code.Reported.{TellChosen};
+ghost use Rattle.report_answers.specs.code.Reported.{TellChosen};
 ghost use Rattle.text_pieces.specs.Pieces.{CanWrite, Writes};
 ghost use Rattle.flow_parts.specs.code.Bits.{AreOfPart};
 ghost use Rattle.flow_parts.specs.Parts.{IsPart, end_line, heading_line, part_lines, part_remarks};
@@ -11,8 +11,9 @@ ghost use Rattle.flow_parts.specs.Parts.{IsPart, end_line, heading_line, part_li
 use crate::OutOfMemory;
 use crate::part_lines::{Share, bits_of};
 use flow_graph::{Analysis, Graph};
-use flow_reports::{ChosenBits, Findings, ReportAnswers};
+use flow_reports::Findings;
 use flow_texts::write_number;
+use report_answers::{ChosenBits, ReportAnswers};
 use std::alloc::Global;
 use std::marker::Model;
 use text_pieces::{Pieces, Sink, Text, whole_text};

@@ -2,12 +2,12 @@
 
 ghost use Rattle.std.specs.Prelude.{◌≡◌, IfOk};
 ghost use Rattle.flow_parts.specs.code.Bits.{AreOfPart};
-ghost use Rattle.flow_reports.specs.code.Reported.{TellChosen};
+ghost use Rattle.report_answers.specs.code.Reported.{TellChosen};
 
 use flow_graph::Graph;
 use flow_parts::{PartText, digest, part_bits, part_here};
-use flow_reports::ReportAnswers;
 use part_texts::merge;
+use report_answers::ReportAnswers;
 use std::alloc::Global;
 use std::process::Abort;
 use std::test::Fail;

@@ -1,3 +1,1 @@
-pub mod queries
-pub mod busy
 pub mod knowledge

@@ -9,10 +9,9 @@ use Rattle.flow_graph.specs.Transfers.{reads}
 use Rattle.flow_graph.specs.Universes.{definitions, expressions, evaluated_at}
 use Rattle.flow_graph.specs.declared.analysis.Analysis.TheVariants.{Reach, Live, Avail, Busy}
 use Rattle.tac_program.specs.Programs.{Program}
-use Rattle.tac_program.specs.declared.program.StmtKind.{StmtKind}
-use Rattle.tac_program.specs.declared.program.StmtKind.TheVariants as kind
 use Rattle.flow_team.specs.Tables.{Facts, AreFacts}
 use Rattle.flow_texts.specs.Tables.{bit_text, bits_at, line_at, variable_text}
+use Rattle.report_answers.specs.Statements.{assigned, is_test}
 use Rattle.flow_reports.specs.declared.remark.Remark.{Remark}
 use Rattle.flow_reports.specs.declared.remark.Remark.TheVariants.{NeverReached, Unset, Computed, VeryBusy, Dead}
 
@@ -49,42 +48,13 @@ abbrev pub computed_at : Program → Knowledge → ℕ → List ℕ
 computed_at program known point =
     elim (evaluated_at program point) [ Some bit ↦ if known.avail.contains point bit then bit ∷ [] else [] | None ↦ [] ]
 
--- whether the statement is a test, a negated test or a comparison
-abbrev pub is_test : StmtKind → Bool
-is_test (kind.Copy x y) = false
-is_test (kind.Unary x op y) = false
-is_test (kind.Binary op x y z) = false
-is_test (kind.Goto label) = false
-is_test (kind.If y label) = true
-is_test (kind.IfFalse y label) = true
-is_test (kind.IfCompare op label y z) = true
-is_test (kind.Call callees) = false
-is_test kind.Return = false
-is_test (kind.Read x) = false
-is_test (kind.Print y) = false
-is_test kind.Skip = false
-
 -- the expressions that are very busy at a test that is not doubtful
 abbrev pub busy_at : Program → Knowledge → ℕ → List ℕ
 busy_at program known point =
     if unwrap_or (option_map is_test (kind_at program point)) false && not (known.doubtful point)
     then bits_at program Busy known.busy point else []
 
--- the variable that an assignment sets; one that is read from outside is none
-abbrev pub assigned : StmtKind → Option ℕ
-assigned (kind.Copy x y) = Some x
-assigned (kind.Unary x op y) = Some x
-assigned (kind.Binary op x y z) = Some x
-assigned (kind.Goto label) = None
-assigned (kind.If y label) = None
-assigned (kind.IfFalse y label) = None
-assigned (kind.IfCompare op label y z) = None
-assigned (kind.Call callees) = None
-assigned kind.Return = None
-assigned (kind.Read x) = None
-assigned (kind.Print y) = None
-assigned kind.Skip = None
-
+-- the variable that the statement at a point assigns
 abbrev pub assigned_at : Program → ℕ → Option ℕ
 assigned_at program point = option_and_then assigned (kind_at program point)
 

@@ -8,12 +8,12 @@ ghost use Rattle.flow_graph.specs.declared.analysis.Analysis.TheVariants.{Live};
 ghost use Rattle.tac_program.specs.Sound.{IsSound};
 ghost use Rattle.flow_queries.specs.Queries.{flags_of};
 ghost use Rattle.flow_reports.specs.code.Findings.{TellDoubtful};
-ghost use Rattle.flow_reports.specs.code.Reported.{TellChosen};
-ghost use Rattle.flow_reports.specs.code.Answered.{facts_in};
+ghost use Rattle.report_answers.specs.code.Reported.{TellChosen};
+ghost use Rattle.report_answers.specs.code.Answered.{facts_in};
 
 use crate::OutOfMemory;
-use crate::report_answers::ReportAnswers;
 use flow_graph::{Analysis, Graph};
+use report_answers::ReportAnswers;
 use std::alloc::Global;
 
 /// For each point whether it has no valid path to the end of `main`.

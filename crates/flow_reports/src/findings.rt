@@ -3,16 +3,16 @@
 ghost use Rattle.std.specs.Prelude.{◌≡◌, ℕ, ◌+◌, ◌*◌, ◌<◌, Some, slice_get, IfOk};
 ghost use Rattle.bit_rows.specs.Words.{has_bit};
 ghost use Rattle.flow_reports.specs.code.Findings.{AreChosenFindings, AreFindings, TellDoubtful};
-ghost use Rattle.flow_reports.specs.code.Reported.{TellChosen, TellReport};
-ghost use Rattle.flow_reports.specs.code.Answered.{facts_in};
-ghost use Rattle.flow_reports.specs.code.Chosen.{wanted_query};
+ghost use Rattle.report_answers.specs.code.Reported.{TellChosen, TellReport};
+ghost use Rattle.report_answers.specs.code.Answered.{facts_in};
+ghost use Rattle.report_answers.specs.code.Chosen.{wanted_query};
 
 use crate::OutOfMemory;
 use crate::doubt::doubtful_points;
-use crate::report_answers::ReportAnswers;
 use flow_graph::{Analysis, Graph};
 use flow_queries::Query;
 use flow_texts::texts_of_bits;
+use report_answers::ReportAnswers;
 use std::alloc::Global;
 use text_pieces::TextBlock;
 

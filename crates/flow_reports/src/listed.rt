@@ -7,16 +7,16 @@ ghost use Rattle.flow_graph.specs.Points.{kind_at, point_count};
 ghost use Rattle.flow_graph.specs.Universes.{bits as bits_of};
 ghost use Rattle.flow_graph.specs.declared.analysis.Analysis.TheVariants.{Busy};
 ghost use Rattle.flow_reports.specs.Listed.{AreRemarks, placed_at, remarks_of};
-ghost use Rattle.flow_reports.specs.Reports.{busy_at, computed_at, dead_at, is_test as is_test_of, remarks_at, remarks_when_reached, unset_at};
+ghost use Rattle.flow_reports.specs.Reports.{busy_at, computed_at, dead_at, remarks_at, remarks_when_reached, unset_at};
+ghost use Rattle.report_answers.specs.Statements.{is_test as is_test_of};
 ghost use Rattle.flow_reports.specs.code.Findings.{AreChosenFindings, AreFindings, knowledge_of};
 ghost use Rattle.flow_reports.specs.declared.remark.Remark.TheVariants.{Computed, Dead, Unset, VeryBusy};
 
 use crate::OutOfMemory;
 use crate::findings::Findings;
-use crate::operands::{VariablesRead, assigned_variable, variables_read};
 use crate::remark::Remark;
-use crate::report_answers::ReportAnswers;
 use flow_graph::{Analysis, Graph};
+use report_answers::{ReportAnswers, VariablesRead, assigned_variable, variables_read};
 use std::alloc::Global;
 use tac_program::StmtKind;
 

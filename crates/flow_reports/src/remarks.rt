@@ -10,20 +10,28 @@ ghost use Rattle.flow_reports.specs.code.Findings.{AreChosenFindings, AreFinding
 ghost use Rattle.flow_texts.specs.code.Members.{texts_where};
 ghost use Rattle.text_pieces.specs.code.Lists.{some_stand};
 ghost use Rattle.text_pieces.specs.Pieces.{CanWrite, Writes};
-ghost use Rattle.flow_reports.specs.Reports.{assigned as assigned_by, busy_at, computed_at, dead_at, is_test as is_test_of, remarks_at};
+ghost use Rattle.flow_reports.specs.Reports.{busy_at, computed_at, dead_at, remarks_at};
+ghost use Rattle.report_answers.specs.Statements.{assigned as assigned_by, is_test as is_test_of};
 ghost use Rattle.flow_reports.specs.Reports.{remarks_when_reached, unset_at};
-ghost use Rattle.flow_reports.specs.code.Chosen.{wanted_query};
+ghost use Rattle.report_answers.specs.code.Chosen.{wanted_query};
 ghost use Rattle.flow_reports.specs.declared.remark.Remark.TheVariants.{Computed, Dead, Unset, VeryBusy};
 
-use crate::busy_words::WordOnes;
 use crate::findings::Findings;
-use crate::operands::{VariablesRead, assigned_variable, is_test, variables_read};
 use crate::remark::Remark;
 use crate::remark_form::{ChosenForm, RemarkForm, WholeForm};
 use flow_graph::Analysis;
 use flow_texts::next_one;
+use report_answers::{VariablesRead, assigned_variable, is_test, variables_read};
 use tac_program::StmtKind;
 use text_pieces::{Pieces, Sink};
+
+// A word of a set: its ones stand for the numbers from the first on and before the end.
+#[derive(Clone, Copy)]
+struct WordOnes {
+    ones: u64,
+    first: u32,
+    end: u32,
+}
 
 /// What a remark says before what it names.
 pub fn words_before_name(remark: Remark) -> &'static [u8]

@@ -8,8 +8,8 @@ ghost use Rattle.flow_reports.specs.code.Findings.{AreChosenFindings, AreFinding
 
 use crate::OutOfMemory;
 use crate::findings::Findings;
-use crate::operands::{VariablesRead, variables_read};
 use flow_graph::Analysis;
+use report_answers::{VariablesRead, variables_read};
 use std::alloc::Global;
 use tac_program::StmtKind;
 

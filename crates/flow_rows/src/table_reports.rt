@@ -1,14 +1,15 @@
 // The report on a program, of what its tables answer.
 ghost use Rattle.std.specs.Prelude.{IfOk};
 ghost use Rattle.flow_reports.specs.Reports.{IsReport, ListsSafely};
-ghost use Rattle.flow_reports.specs.code.Reported.{TellReport};
+ghost use Rattle.report_answers.specs.code.Reported.{TellReport};
 ghost use Rattle.flow_team.specs.AllTables.{AreTablesOf};
 
 use crate::OutOfMemory;
 use crate::table_answers::answers_of_tables;
 use flow_graph::Graph;
-use flow_reports::{FirstRound, ReportAnswers, ReportText};
+use flow_reports::ReportText;
 use flow_team::Tables;
+use report_answers::{FirstRound, ReportAnswers};
 use std::alloc::Global;
 use text_pieces::whole_text;
 

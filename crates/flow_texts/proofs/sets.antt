@@ -1,4 +1,3 @@
 pub mod BitRuns
 pub mod ListTexts
 pub mod RangeLines
-pub mod Rising

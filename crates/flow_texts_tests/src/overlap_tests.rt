@@ -3,8 +3,9 @@
 ghost use Rattle.slice_board.specs.Ranges.{AreInRange};
 
 use flow_graph::Graph;
-use flow_reports::{ReportAnswers, ReportText};
+use flow_reports::ReportText;
 use flow_team::Team;
+use report_answers::ReportAnswers;
 use std::alloc::Global;
 use std::process::Abort;
 use std::test::Fail;

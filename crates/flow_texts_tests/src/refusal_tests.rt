@@ -3,13 +3,14 @@
 ghost use Rattle.std.specs.Prelude.{◌≡◌, IfOk};
 ghost use Rattle.flow_team.specs.Tables.{IsTableOf};
 ghost use Rattle.flow_team.specs.AllTables.{AreTablesOf};
-ghost use Rattle.flow_reports.specs.code.Reported.{TellReport};
+ghost use Rattle.report_answers.specs.code.Reported.{TellReport};
 
 use flow_graph::{Analysis, Graph};
-use flow_reports::{ReportAnswers, ReportText, report_here};
+use flow_reports::{ReportText, report_here};
 use flow_rows::{report, report_answers_of_tables};
 use flow_team::{Table, Tables, table_of};
 use flow_texts::{TableText, table_text};
+use report_answers::ReportAnswers;
 use std::alloc::Global;
 use std::process::Abort;
 use std::test::Fail;

@@ -3,8 +3,8 @@
 ghost use Rattle.slice_board.specs.Ranges.{AreInRange};
 
 use flow_graph::Graph;
-use flow_reports::ReportAnswers;
 use flow_team::Team;
+use report_answers::ReportAnswers;
 use std::alloc::{AllocError as OutOfMemory, Global};
 use std::test::Fail;
 use std::thread::Threads;

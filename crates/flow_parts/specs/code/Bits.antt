@@ -3,8 +3,8 @@ use Rattle.std.specs.Prelude.{◌≡◌, ℕ, length}
 use Rattle.flow_graph.specs.Universes.{bits}
 use Rattle.flow_graph.specs.declared.analysis.Analysis.TheVariants.{Reach, Live, Avail, Busy}
 use Rattle.flow_parts.specs.Cuts.{is_in_cut}
-use Rattle.flow_reports.specs.code.Chosen.{wants}
-use Rattle.flow_reports.specs.declared.chosen_bits.ChosenBits.{ChosenBits}
+use Rattle.report_answers.specs.code.Chosen.{wants}
+use Rattle.report_answers.specs.declared.chosen_bits.ChosenBits.{ChosenBits}
 use Rattle.tac_program.specs.Programs.{Program}
 
 -- The bits of a part are asked, and no others: values at the beginning have the numbers of their variables among the definitions.

@@ -5,38 +5,37 @@ use Rattle.std.proofs.Common.{slice_index_or, if◌then◌else◌}
 use Rattle.std.proofs.Common.{inl, inr, refl, sym, ap, ap₂, subst, arith}
 use Rattle.std.specs.List.{filter, list_any, range_with_len}
 use Rattle.std.proofs.lemmas.List.Concat.{flat_map-cons}
-use Rattle.std.proofs.lemmas.List.Quantifiers.{position-Some}
 use Rattle.std.proofs.lemmas.Option.{slice_get-get_or}
 use Rattle.std.proofs.lemmas.Bool.Decides.{same_from_decides}
 use Rattle.flow_graph.specs.Analyses.{IsInTable}
 use Rattle.flow_graph.specs.Points.{kind_at, point_count}
 use Rattle.flow_graph.specs.Transfers.{names_variable, operands_of, reads}
-use Rattle.flow_graph.specs.Universes.{bits, evaluated_at, expression_at, expression_of, expressions, same_expression}
+use Rattle.flow_graph.specs.Universes.{bits, evaluated_at, expression_of, expressions, same_expression}
 use Rattle.flow_graph.specs.declared.analysis.Analysis.{Analysis}
 use Rattle.flow_graph.specs.declared.analysis.Analysis.TheVariants.{Reach, Live, Avail, Busy}
-use Rattle.flow_graph.specs.declared.expression.Expr.{Expr}
 use Rattle.flow_graph.proofs.places.Standing.{stands}
 use Rattle.summary_equations.proofs.tables.ProgramTables.{tables_are_decided}
 use Rattle.tac_program.specs.Programs.{Program}
 use Rattle.tac_program.specs.Sound.{IsSound}
 use Rattle.tac_program.specs.declared.program.StmtKind.{StmtKind}
 use Rattle.flow_team.specs.Tables.{AreFacts, Facts}
-use Rattle.flow_reports.specs.Reports.{IsKnowledge, Knowledge, assigned, busy_at, computed_at, count_line, dead_at, is_test, lines_at, remark_line}
+use Rattle.flow_reports.specs.Reports.{IsKnowledge, Knowledge, busy_at, computed_at, count_line, dead_at, lines_at, remark_line}
+use Rattle.report_answers.specs.Statements.{assigned, is_test}
 use Rattle.flow_reports.specs.Reports.{remarks_at, remarks_when_reached, report_of, unset_at}
 use Rattle.flow_texts.specs.Tables.{bits_at}
-use Rattle.flow_reports.specs.code.Busy.{IsBusy}
-use Rattle.flow_reports.specs.code.Chosen.{blank_query, wanted_query, wants, wants_word}
+use Rattle.report_answers.specs.code.Busy.{IsBusy}
+use Rattle.report_answers.specs.code.Chosen.{blank_query, wanted_query, wants, wants_word}
 use Rattle.flow_reports.specs.code.Findings.{AreChosenFindings, AreFindings, TellDoubtful, knowledge_of}
-use Rattle.flow_reports.specs.code.Reported.{AreQueriedAt, TellChosen, no_places}
-use Rattle.flow_reports.specs.code.Answered.{query_for, facts_in}
-use Rattle.flow_reports.specs.declared.chosen_bits.ChosenBits.{ChosenBits}
-use Rattle.flow_reports.specs.declared.chosen_bits.ChosenBits.TheVariants as choice
+use Rattle.report_answers.specs.code.Reported.{AreQueriedAt, TellChosen, no_places}
+use Rattle.report_answers.specs.code.Answered.{query_for, facts_in}
+use Rattle.report_answers.specs.declared.chosen_bits.ChosenBits.{ChosenBits}
+use Rattle.report_answers.specs.declared.chosen_bits.ChosenBits.TheVariants as choice
 use Rattle.flow_reports.specs.declared.findings.Findings.{Findings}
 use Rattle.flow_reports.specs.declared.remark.Remark.TheVariants.{NeverReached, Unset, Computed, VeryBusy, Dead}
-use Rattle.flow_reports.specs.declared.report_queries.PointQueries.{PointQueries}
-use Rattle.flow_reports.proofs.knowledge.RemarkLines.{assigned_there, next_below, read_there, variables_have_dummies}
-use Rattle.flow_reports.proofs.queries.Answered.{bit_known}
-use Rattle.flow_reports.proofs.busy.Lists.{busy_known}
+use Rattle.report_answers.specs.declared.report_queries.PointQueries.{PointQueries}
+use Rattle.report_answers.proofs.queries.Statements.{assigned_there, evaluated_there, next_below, read_there, variables_have_dummies}
+use Rattle.report_answers.proofs.queries.Answered.{bit_known}
+use Rattle.report_answers.proofs.busy.Lists.{busy_known}
 
 -- which of two it is
 is_left : {A B : Type 0} → A ⊎ B → Bool
@@ -211,15 +210,7 @@ same_report program sound one other agree =
 within : {P : Type 0} (b : Bool) (bit limit : ℕ) → bit < limit → (b ≡ true) ↔ ((bit < limit) × P) → (b ≡ true) ↔ P
 within b bit limit below is = ((λ has. (is.0 has).1), (λ p. is.1 (below, p)))
 
--- the expression that a statement evaluates is one of all; where no statement stands there is none
-evaluated_among : (program : Program) (bit : ℕ) (o : Option Expr)
-    → option_and_then (λ e. position (same_expression e) (expressions program)) o ≡ Some bit → bit < bits program Avail
-evaluated_among program bit None is = absurd (cc is)
-evaluated_among program bit (Some e) is = (position-Some (same_expression e) (expressions program) bit e is).0
-
-pub evaluated_there : (program : Program) (point bit : ℕ) → evaluated_at program point ≡ Some bit → bit < bits program Avail
-evaluated_there program point bit is = evaluated_among program bit (expression_at program point) is
-
+-- where no statement stands no expression is evaluated
 none_evaluated : (program : Program) (point bit : ℕ) → kind_at program point ≡ None → ¬ (evaluated_at program point ≡ Some bit)
 none_evaluated program point bit at is =
     cc (sym is ∙ ap (λ o. option_and_then (λ e. position (same_expression e) (expressions program)) (option_and_then expression_of o)) at)

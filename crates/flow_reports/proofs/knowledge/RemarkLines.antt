@@ -1,38 +1,30 @@
 -- Which remarks there are, and of which bits and variables they are
-use Rattle.std.proofs.Common.{◌≡◌, ℕ, suc, ◌+◌, ◌<◌, ◌≤◌, Bool, true, false, not, ◌&&◌, ◌||◌, List, [], ◌∷◌, ◌++◌, length, map, flat_map, cond}
-use Rattle.std.proofs.Common.{Option, Some, None, option_and_then, option_map, unwrap_or, slice_get, nat_eq, if◌then◌else◌, refl, sym, ap, ◌∙◌, arith}
-use Rattle.std.proofs.Common.{length-append}
-use Rattle.std.specs.List.{filter, list_any, range_with_len}
+use Rattle.std.proofs.Common.{◌≡◌, ℕ, suc, ◌+◌, ◌<◌, Bool, true, false, not, ◌&&◌, ◌||◌, List, [], ◌∷◌, ◌++◌, length, map, flat_map, cond}
+use Rattle.std.proofs.Common.{Option, Some, None, option_and_then, option_map, unwrap_or, slice_get, if◌then◌else◌, refl, sym, ap, ◌∙◌, arith}
+use Rattle.std.specs.List.{filter, range_with_len}
 use Rattle.std.proofs.lemmas.Grind.{flat_map-append}
 use Rattle.std.proofs.lemmas.List.Elements.{filter-append}
 use Rattle.std.proofs.lemmas.List.Folds.{flat_map-map}
-use Rattle.std.proofs.lemmas.List.FromFn.{length-map-range_with_len}
-use Rattle.std.proofs.Math.Bool.{or-true}
-use Rattle.std.proofs.lemmas.Bool.{eq-eqb}
 use Rattle.tac_program.specs.Programs.{Program}
-use Rattle.tac_program.specs.Sound.{IsSound, IsSoundOperand}
-use Rattle.tac_program.specs.declared.program.Operand.{Operand}
-use Rattle.tac_program.specs.declared.program.Operand.TheVariants.{Variable, Number}
+use Rattle.tac_program.specs.Sound.{IsSound}
 use Rattle.tac_program.specs.declared.program.Stmt.{Stmt}
 use Rattle.tac_program.specs.declared.program.StmtKind.{StmtKind}
-use Rattle.tac_program.specs.declared.program.StmtKind.TheVariants as kind
-use Rattle.flow_graph.specs.Points.{kind_at, point_count, points, statement_at}
-use Rattle.flow_graph.specs.Transfers.{names_variable, operands_of, reads}
-use Rattle.flow_graph.specs.Universes.{bits, evaluated_at, definition_at, dummies, Definition}
-use Rattle.flow_graph.specs.declared.analysis.Analysis.TheVariants.{Busy, Reach}
-use Rattle.flow_graph.proofs.edges.EdgeLemmas.{next_in}
-use Rattle.flow_graph.proofs.places.Standing.{Stands, stands}
-use Rattle.flow_reports.specs.code.Operands.{AreRead}
+use Rattle.flow_graph.specs.Points.{kind_at, point_count, statement_at}
+use Rattle.flow_graph.specs.Transfers.{reads}
+use Rattle.flow_graph.specs.Universes.{evaluated_at}
+use Rattle.flow_graph.specs.declared.analysis.Analysis.TheVariants.{Busy}
+use Rattle.report_answers.specs.code.Operands.{AreRead}
 use Rattle.flow_reports.specs.code.Findings.{remark_name, words_before, words_behind}
 use Rattle.flow_texts.specs.code.Members.{texts_where}
 use Rattle.text_pieces.specs.code.Lists.{some_stand}
-use Rattle.flow_team.specs.Tables.{Facts}
-use Rattle.flow_reports.specs.Reports.{Knowledge, assigned, busy_at, computed_at, dead_at, is_test, remark_text, remarks_at, remarks_when_reached}
+use Rattle.flow_reports.specs.Reports.{Knowledge, busy_at, computed_at, dead_at, remark_text, remarks_at, remarks_when_reached}
+use Rattle.report_answers.specs.Statements.{assigned, is_test}
 use Rattle.flow_reports.specs.Reports.{unset_at}
 use Rattle.flow_reports.specs.declared.remark.Remark.{Remark}
 use Rattle.flow_reports.specs.declared.remark.Remark.TheVariants.{NeverReached, Unset, Computed, VeryBusy, Dead}
 use Rattle.flow_texts.specs.Tables.{bits_at, variable_text}
-use Rattle.flow_texts.proofs.sets.Rising.{rises, filter_rising, filter_both}
+use Rattle.report_answers.proofs.queries.Rising.{filter_both}
+use Rattle.report_answers.proofs.queries.Statements.{read_are}
 
 -- the texts of two numbers
 pub two_texts : (text_of : ℕ → List ℕ) (test : ℕ → Bool) (m n : ℕ)
@@ -70,92 +62,13 @@ pub name_is : (program other : Program) (variable : ℕ) (name : List ℕ) → o
 name_is program other variable name same found =
     sym (ap (λ (p : Program). variable_text p variable) (sym same) ∙ ap (λ o. unwrap_or o []) found)
 
--- each variable has a definition, its dummy, of the variable's number
-pub variables_have_dummies : (program : Program) → length program.variable_names ≤ bits program Reach
-variables_have_dummies program =
-    let so_many : length (dummies program) ≡ length program.variable_names =
-    length-map-range_with_len (λ (x : ℕ). let d : Definition = (x, None) in d) 0 (length program.variable_names) in
-    omega (arith, so_many, length-append (dummies program) (flat_map (definition_at program) (points program)))
-
--- a variable that a sound operand reads is there
-operand_there : (variables x : ℕ) (y : Operand) → IsSoundOperand variables y → names_variable x y ≡ true → x < variables
-operand_there variables x (Variable y) sound reading =
-    let same : x ≡ y = grind arith in
-    omega (arith, same, sound)
-operand_there variables x (Number n) sound reading = absurd (cc reading)
-
-one_there : (variables x : ℕ) (y : Operand) → IsSoundOperand variables y → list_any (names_variable x) (y ∷ []) ≡ true → x < variables
-one_there variables x y sound reading = by_test (names_variable x y) refl reading
-  where
-    by_test : (b : Bool) → names_variable x y ≡ b → (b || false) ≡ true → x < variables
-    by_test true is any = operand_there variables x y sound is
-    by_test false is any = absurd (cc any)
-
-two_there : (variables x : ℕ) (y z : Operand) → IsSoundOperand variables y → IsSoundOperand variables z
-    → list_any (names_variable x) (y ∷ z ∷ []) ≡ true → x < variables
-two_there variables x y z left right reading = by_test (names_variable x y) refl reading
-  where
-    by_test : (b : Bool) → names_variable x y ≡ b → (b || list_any (names_variable x) (z ∷ [])) ≡ true → x < variables
-    by_test true is any = operand_there variables x y left is
-    by_test false is any = one_there variables x z right any
-
-pub read_there : (program : Program) (point x : ℕ) (k : StmtKind) → Stands program point k → list_any (names_variable x) (operands_of k) ≡ true
-    → x < length program.variable_names
-read_there program point x (kind.Copy t y) stand reading = one_there (length program.variable_names) x y stand.sound.1 reading
-read_there program point x (kind.Unary t o y) stand reading = one_there (length program.variable_names) x y stand.sound.operand reading
-read_there program point x (kind.Binary o t y z) stand reading =
-    two_there (length program.variable_names) x y z stand.sound.left stand.sound.right reading
-read_there program point x (kind.Goto l) stand reading = absurd (cc reading)
-read_there program point x (kind.If y l) stand reading = one_there (length program.variable_names) x y stand.sound.0 reading
-read_there program point x (kind.IfFalse y l) stand reading = one_there (length program.variable_names) x y stand.sound.0 reading
-read_there program point x (kind.IfCompare o l y z) stand reading =
-    two_there (length program.variable_names) x y z stand.sound.left stand.sound.right reading
-read_there program point x (kind.Call ps) stand reading = absurd (cc reading)
-read_there program point x kind.Return stand reading = absurd (cc reading)
-read_there program point x (kind.Read t) stand reading = absurd (cc reading)
-read_there program point x (kind.Print y) stand reading = one_there (length program.variable_names) x y stand.sound reading
-read_there program point x kind.Skip stand reading = absurd (cc reading)
-
-pub variables_are_there : (program : Program) (point : ℕ) (k : StmtKind) (variables : List ℕ) → IsSound program → point < point_count program
-    → kind_at program point ≡ Some k → AreRead k variables
-    → (x : ℕ) → list_any (nat_eq x) variables ≡ true → x < length program.variable_names
-variables_are_there program point k variables sound below at are x any =
-    read_there program point x k (stands program sound point k below at) (sym (are.read x) ∙ any)
-
--- each stands among them
-pub first_of : (x : ℕ) (xs : List ℕ) → list_any (nat_eq x) (x ∷ xs) ≡ true
-first_of x xs = ap (λ t. t || list_any (nat_eq x) xs) (eq-eqb x x refl)
-
-pub second_of : (x y : ℕ) → list_any (nat_eq y) (x ∷ y ∷ []) ≡ true
-second_of x y = ap (λ t. nat_eq y x || t) (first_of y []) ∙ or-true (nat_eq y x)
-
 -- they are those of all variables that it reads
 pub unset_are : (program : Program) (known : Knowledge) (point : ℕ) (k : StmtKind) (variables : List ℕ) → IsSound program
     → point < point_count program → kind_at program point ≡ Some k → AreRead k variables
     → unset_at program known point ≡ filter (known.reach.contains point) variables
 unset_are program known point k variables sound below at are =
     filter_both (reads program point) (known.reach.contains point) (range_with_len 0 (length program.variable_names))
-    ∙ ap
-    (filter (known.reach.contains point))
-    (filter_rising (length program.variable_names) 0 variables (reads program point) (rises variables are.rising)
-    (λ x any. omega (arith, variables_are_there program point k variables sound below at are x any))
-    (λ x above. are.read x ∙ ap (λ o. list_any (names_variable x) (unwrap_or (option_map operands_of o) [])) (sym at)))
-
-filter_all : (xs : List ℕ) → filter (λ _. true) xs ≡ xs
-filter_all [] = refl
-filter_all (x ∷ xs) = ap (λ ys. x ∷ ys) (filter_all xs)
-
--- there is one such list
-pub same_read : (program : Program) (point : ℕ) (k : StmtKind) (one other : List ℕ) → IsSound program → point < point_count program
-    → kind_at program point ≡ Some k
-    → AreRead k one → AreRead k other → one ≡ other
-same_read program point k one other sound below at are_one are_other =
-    let facts : Facts = record { has_path = λ p. true; contains = λ p v. true } in
-    let every : Knowledge = record { reach = facts; live = facts; avail = facts; busy = facts; doubtful = λ p. true } in
-    sym (filter_all one)
-    ∙ sym (unset_are program every point k one sound below at are_one)
-    ∙ unset_are program every point k other sound below at are_other
-    ∙ filter_all other
+    ∙ ap (filter (known.reach.contains point)) (read_are program point k variables sound below at are)
 
 -- the expression that the statement evaluates, where it is available
 pub computed_is : (program : Program) (known : Knowledge) (point bit : ℕ) → evaluated_at program point ≡ Some bit
@@ -210,26 +123,6 @@ busy_is program known point k answered at is =
   where
     expressions_if : Bool → List ℕ
     expressions_if = λ t. if t then bits_at program Busy known.busy point else []
-
--- what an assignment sets is there
-pub assigned_there : (program : Program) (point x : ℕ) (k : StmtKind) → Stands program point k → assigned k ≡ Some x
-    → x < length program.variable_names
-assigned_there program point x (kind.Copy t y) stand sets = let same : t ≡ x = cc in omega (arith, stand.sound.0, same)
-assigned_there program point x (kind.Unary t o y) stand sets = let same : t ≡ x = cc in omega (arith, stand.sound.target, same)
-assigned_there program point x (kind.Binary o t y z) stand sets = let same : t ≡ x = cc in omega (arith, stand.sound.target, same)
-assigned_there program point x (kind.Goto l) stand sets = absurd (cc sets)
-assigned_there program point x (kind.If y l) stand sets = absurd (cc sets)
-assigned_there program point x (kind.IfFalse y l) stand sets = absurd (cc sets)
-assigned_there program point x (kind.IfCompare o l y z) stand sets = absurd (cc sets)
-assigned_there program point x (kind.Call ps) stand sets = absurd (cc sets)
-assigned_there program point x kind.Return stand sets = absurd (cc sets)
-assigned_there program point x (kind.Read t) stand sets = absurd (cc sets)
-assigned_there program point x (kind.Print y) stand sets = absurd (cc sets)
-assigned_there program point x kind.Skip stand sets = absurd (cc sets)
-
--- the point after a statement is a point
-pub next_below : (program : Program) (point : ℕ) (k : StmtKind) → Stands program point k → point + 1 < point_count program
-next_below program point k stand = omega (arith, (next_in program point k stand).below)
 
 -- the texts of all remarks are those of each kind
 pub remarks_are : (program : Program) (known : Knowledge) (point : ℕ) (text_of : Remark → List ℕ)

@@ -10,13 +10,14 @@ use Rattle.flow_graph.proofs.graphs.GraphLaws.{dead_variables_are_safe}
 use Rattle.flow_graph.proofs.places.Standing.{Stands, stands}
 use Rattle.flow_graph.proofs.lists.Membership.{Contains-one}
 use Rattle.flow_reports.specs.code.Findings.{AreFindings, TellDoubtful, knowledge_of}
-use Rattle.flow_reports.specs.Reports.{IsKnowledge, IsListedDead, IsReport, IsSafeToDelete, Knowledge, ListsSafely, assigned, busy_at, computed_at}
+use Rattle.flow_reports.specs.Reports.{IsKnowledge, IsListedDead, IsReport, IsSafeToDelete, Knowledge, ListsSafely, busy_at, computed_at}
+use Rattle.report_answers.specs.Statements.{assigned}
 use Rattle.flow_reports.specs.Reports.{dead_at, remarks_at, remarks_when_reached, report_of, unset_at}
 use Rattle.flow_reports.specs.declared.remark.Remark.{Remark}
 use Rattle.flow_reports.specs.declared.remark.Remark.TheVariants.{NeverReached, Unset, Computed, VeryBusy, Dead}
 use Rattle.flow_reports.specs.declared.findings.Findings.{Findings}
 use Rattle.flow_reports.proofs.knowledge.KnownReports.{all_is_known, all_known, report_of_all}
-use Rattle.flow_reports.proofs.knowledge.RemarkLines.{assigned_there, next_below}
+use Rattle.report_answers.proofs.queries.Statements.{assigned_there, next_below}
 
 -- what is said of an assignment that is listed as dead
 record IsDead (program : Program) (known : Knowledge) (point variable : ℕ) : Type 0 where

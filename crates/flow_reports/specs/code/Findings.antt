@@ -12,8 +12,8 @@ use Rattle.tac_program.specs.Sound.{IsSound}
 use Rattle.text_pieces.specs.code.Lists.{AreTexts}
 use Rattle.flow_reports.specs.Reports.{Knowledge, remark_text}
 use Rattle.flow_texts.specs.Tables.{bit_text, variable_text}
-use Rattle.flow_reports.specs.code.Reported.{TellChosen, TellReport, busy_facts}
-use Rattle.flow_reports.specs.code.Answered.{facts_in}
+use Rattle.report_answers.specs.code.Reported.{TellChosen, TellReport, busy_facts}
+use Rattle.report_answers.specs.code.Answered.{facts_in}
 use Rattle.flow_reports.specs.declared.findings.Findings.{Findings}
 use Rattle.flow_reports.specs.declared.remark.Remark.{Remark}
 use Rattle.flow_reports.specs.declared.remark.Remark.TheVariants.{NeverReached, Unset, Computed, VeryBusy, Dead}

@@ -2,8 +2,8 @@ use Rattle.std.proofs.Common.{◌≡◌, ◌∙◌, ◌*◌, ◌-◌, ◌/◌, �
 use Rattle.flow_graph.specs.Universes.{bits}
 use Rattle.flow_graph.specs.declared.analysis.Analysis.TheVariants.{Avail}
 use Rattle.tac_program.specs.Programs.{Program}
-use Rattle.flow_reports.specs.code.Chosen.{is_within}
-use Rattle.flow_reports.specs.declared.chosen_bits.WordRange.{WordRange}
+use Rattle.report_answers.specs.code.Chosen.{is_within}
+use Rattle.report_answers.specs.declared.chosen_bits.WordRange.{WordRange}
 use Rattle.flow_parts.specs.Cuts.{cut_end, groups_of, is_in_cut}
 use Rattle.flow_parts.proofs.Words.{by_words}
 use Rattle.flow_parts.proofs.part_lines.bits_of.Goals as goal

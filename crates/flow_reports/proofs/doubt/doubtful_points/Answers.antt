@@ -3,7 +3,7 @@ use Rattle.std.proofs.lemmas.List.FromFn.{length-map-range_with_len}
 use Rattle.std.proofs.lemmas.Result.{IfOk-weaker}
 use Rattle.flow_graph.specs.Points.{point_count}
 use Rattle.flow_graph.specs.declared.analysis.Analysis.TheVariants.{Live}
-use Rattle.flow_reports.specs.code.Answered.{facts_in}
+use Rattle.report_answers.specs.code.Answered.{facts_in}
 use Rattle.flow_reports.proofs.knowledge.Doubts.{tell_doubtful}
 use Rattle.flow_reports.proofs.doubt.doubtful_points.Goals as goal
 

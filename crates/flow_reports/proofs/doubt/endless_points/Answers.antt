@@ -1,7 +1,7 @@
 use Rattle.std.proofs.Common.{◌≡◌, ℕ, Bool, [], ◌∷◌, ◌++◌, not, ap, ◌∙◌, sym}
 use Rattle.flow_graph.proofs.lists.Ranges.{map-range_more}
 use Rattle.flow_graph.specs.declared.analysis.Analysis.TheVariants.{Live}
-use Rattle.flow_reports.specs.code.Answered.{facts_in}
+use Rattle.report_answers.specs.code.Answered.{facts_in}
 use Rattle.flow_reports.proofs.doubt.endless_points.Goals as goal
 
 pub loop-point-preserved : goal.loop-point-preserved

@@ -1,7 +1,7 @@
 use Rattle.std.proofs.Common.{◌≡◌, map, not}
 use Rattle.std.specs.List.{range_with_len}
 use Rattle.flow_graph.specs.declared.analysis.Analysis.TheVariants.{Live}
-use Rattle.flow_reports.specs.code.Answered.{facts_in}
+use Rattle.report_answers.specs.code.Answered.{facts_in}
 use Rattle.flow_reports.proofs.doubt.endless_points.Given as goal
 
 abbrev pub invariant-loop-point : goal.invariant-loop-point

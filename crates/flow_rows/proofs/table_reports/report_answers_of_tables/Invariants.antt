@@ -1,4 +1,4 @@
-use Rattle.flow_reports.specs.code.Reported.{TellRest, words_left}
+use Rattle.report_answers.specs.code.Reported.{TellRest, words_left}
 use Rattle.flow_rows.proofs.table_reports.report_answers_of_tables.Given as goal
 
 abbrev pub invariant-loop-rounds : goal.invariant-loop-rounds

@@ -3,7 +3,7 @@ use Rattle.std.proofs.Common.{◌++◌, List, ℕ, ap, sym, subst}
 use Rattle.tac_program.specs.Programs.{Program}
 use Rattle.flow_reports.specs.Reports.{Knowledge, count_line}
 use Rattle.flow_reports.specs.code.Findings.{AreChosenFindings, TellDoubtful, knowledge_of}
-use Rattle.flow_reports.specs.code.Reported.{Reported}
+use Rattle.report_answers.specs.code.Reported.{Reported}
 use Rattle.flow_reports.specs.declared.findings.Findings.{Findings}
 use Rattle.flow_reports.specs.declared.listed.PlacedRemark.{PlacedRemark}
 use Rattle.flow_reports.proofs.knowledge.KnownReports.{agrees_on, all_of, all_of_is_known}

@@ -3,7 +3,8 @@ use Rattle.flow_graph.proofs.places.Standing.{stands}
 use Rattle.tac_program.specs.Programs.{Program}
 use Rattle.flow_reports.specs.code.Findings.{knowledge_of}
 use Rattle.text_pieces.specs.code.Lists.{some_stand}
-use Rattle.flow_reports.proofs.knowledge.RemarkLines.{dead_is, next_below, none_dead, some_if}
+use Rattle.flow_reports.proofs.knowledge.RemarkLines.{dead_is, none_dead, some_if}
+use Rattle.report_answers.proofs.queries.Statements.{next_below}
 use Rattle.flow_reports.proofs.findings.Findings.finds_dead.Goals as goal
 
 pub is_dead_after-requires-clause-next : goal.is_dead_after-requires-clause-next

@@ -1,11 +1,11 @@
 use Rattle.std.proofs.Common.{ℕ, [], ◌∷◌, ◌+◌, ◌<◌, ◌||◌, length, ap, ◌∙◌, sym, arith}
 use Rattle.std.proofs.lemmas.Option.{slice_get_within}
 use Rattle.flow_graph.specs.declared.analysis.Analysis.TheVariants.{Reach}
-use Rattle.flow_reports.specs.code.Chosen.{wanted_query}
-use Rattle.flow_reports.proofs.queries.Querying.{first_read, second_read}
+use Rattle.report_answers.specs.code.Chosen.{wanted_query}
+use Rattle.report_answers.proofs.queries.Querying.{first_read, second_read}
 use Rattle.tac_program.specs.Programs.{Program}
 use Rattle.flow_reports.specs.code.Findings.{knowledge_of}
-use Rattle.flow_reports.specs.code.Operands.{AreRead}
+use Rattle.report_answers.specs.code.Operands.{AreRead}
 use Rattle.text_pieces.specs.code.Lists.{some_stand}
 use Rattle.flow_reports.specs.Reports.{Knowledge}
 use Rattle.flow_reports.proofs.knowledge.RemarkLines.{unset_are, one_passes, two_pass}

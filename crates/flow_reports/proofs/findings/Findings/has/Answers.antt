@@ -2,7 +2,7 @@ use Rattle.std.proofs.Common.{◌%◌, eqb, ap, ◌∙◌}
 use Rattle.std.proofs.lemmas.Nat.Bits.{shr_and_one}
 use Rattle.bit_rows.specs.Words.{has_bit}
 use Rattle.flow_queries.specs.Queries.{Replies}
-use Rattle.flow_reports.proofs.queries.Answered.{word_known}
+use Rattle.report_answers.proofs.queries.Answered.{word_known}
 use Rattle.flow_reports.proofs.findings.Findings.has.Goals as goal
 
 pub returns : goal.returns

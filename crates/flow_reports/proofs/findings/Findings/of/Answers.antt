@@ -1,6 +1,6 @@
 use Rattle.std.proofs.Common.{sym, subst}
 use Rattle.flow_reports.specs.code.Findings.{AreChosenFindings}
-use Rattle.flow_reports.specs.code.Reported.{Reported, TellReport}
+use Rattle.report_answers.specs.code.Reported.{Reported, TellReport}
 use Rattle.flow_reports.specs.declared.findings.Findings.{Findings}
 use Rattle.tac_program.specs.Programs.{Program}
 use Rattle.flow_reports.proofs.findings.Findings.of.Goals as goal

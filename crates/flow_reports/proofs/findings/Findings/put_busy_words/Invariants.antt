@@ -2,7 +2,7 @@ use Rattle.std.proofs.Common.{◌≡◌, ◌*◌, ◌++◌, ℕ, map, min}
 use Rattle.flow_graph.specs.Universes.{bits}
 use Rattle.flow_graph.specs.declared.analysis.Analysis.TheVariants.{Busy}
 use Rattle.flow_reports.specs.Listed.{placed_at}
-use Rattle.flow_reports.specs.code.Busy.{AreBusy}
+use Rattle.report_answers.specs.code.Busy.{AreBusy}
 use Rattle.flow_reports.specs.code.Findings.{knowledge_of}
 use Rattle.flow_reports.specs.declared.remark.Remark.TheVariants.{VeryBusy}
 use Rattle.flow_reports.proofs.knowledge.Listed.{members}

@@ -8,14 +8,14 @@ use Rattle.flow_graph.specs.declared.analysis.Analysis.TheVariants.{Reach}
 use Rattle.tac_program.specs.Programs.{Program}
 use Rattle.flow_reports.specs.Listed.{placed_at}
 use Rattle.flow_reports.specs.Reports.{Knowledge, unset_at}
-use Rattle.flow_reports.specs.code.Chosen.{wanted_query}
+use Rattle.report_answers.specs.code.Chosen.{wanted_query}
 use Rattle.flow_reports.specs.code.Findings.{knowledge_of}
-use Rattle.flow_reports.specs.code.Operands.{AreRead}
+use Rattle.report_answers.specs.code.Operands.{AreRead}
 use Rattle.flow_reports.specs.declared.remark.Remark.{Remark}
 use Rattle.flow_reports.specs.declared.remark.Remark.TheVariants.{Unset}
 use Rattle.flow_reports.proofs.knowledge.Listed.{map_if, then_placed}
 use Rattle.flow_reports.proofs.knowledge.RemarkLines.{unset_are}
-use Rattle.flow_reports.proofs.queries.Querying.{first_read, second_read}
+use Rattle.report_answers.proofs.queries.Querying.{first_read, second_read}
 use Rattle.flow_reports.proofs.findings.Findings.put_unset.Goals as goal
 
 -- what is said of one variable

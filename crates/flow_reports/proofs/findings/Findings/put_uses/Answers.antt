@@ -8,12 +8,12 @@ use Rattle.flow_graph.specs.declared.analysis.Analysis.TheVariants.{Reach}
 use Rattle.tac_program.specs.Programs.{Program}
 use Rattle.flow_reports.specs.Reports.{Knowledge, unset_at}
 use Rattle.flow_reports.specs.Uses.{uses_of}
-use Rattle.flow_reports.specs.code.Chosen.{wanted_query}
+use Rattle.report_answers.specs.code.Chosen.{wanted_query}
 use Rattle.flow_reports.specs.code.Findings.{knowledge_of}
-use Rattle.flow_reports.specs.code.Operands.{AreRead}
+use Rattle.report_answers.specs.code.Operands.{AreRead}
 use Rattle.flow_reports.specs.declared.unset.UnsetUse.{UnsetUse}
 use Rattle.flow_reports.proofs.knowledge.RemarkLines.{unset_are}
-use Rattle.flow_reports.proofs.queries.Querying.{first_read, second_read}
+use Rattle.report_answers.proofs.queries.Querying.{first_read, second_read}
 use Rattle.flow_reports.proofs.findings.Findings.put_uses.Goals as goal
 
 -- the uses of one variable

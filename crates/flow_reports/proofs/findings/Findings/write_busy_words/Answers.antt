@@ -8,12 +8,12 @@ use Rattle.flow_graph.specs.Universes.{bits}
 use Rattle.flow_graph.specs.declared.analysis.Analysis.TheVariants.{Busy}
 use Rattle.tac_program.specs.Programs.{Program}
 use Rattle.tac_program.specs.declared.program.StmtKind.{StmtKind}
-use Rattle.flow_reports.specs.Reports.{is_test}
-use Rattle.flow_reports.specs.code.Busy.{AreBusy, IsBusy}
+use Rattle.report_answers.specs.Statements.{is_test}
+use Rattle.report_answers.specs.code.Busy.{AreBusy, IsBusy}
 use Rattle.flow_reports.specs.code.Findings.{AreChosenFindings, knowledge_of}
 use Rattle.flow_reports.specs.declared.findings.Findings.{Findings}
 use Rattle.flow_reports.specs.declared.remark.Remark.TheVariants.{VeryBusy}
-use Rattle.flow_reports.proofs.busy.Lists.{IsFirst, ended_known, first_known}
+use Rattle.report_answers.proofs.busy.Lists.{IsFirst, ended_known, first_known}
 use Rattle.flow_reports.proofs.knowledge.KnownReports.{busy_in, busy_in_word}
 use Rattle.flow_texts.proofs.sets.RangeLines.{next_word, no_more, texts_between}
 use Rattle.text_pieces.specs.Pieces.{Outlet, outlet}

@@ -2,7 +2,7 @@ use Rattle.std.proofs.Common.{◌*◌, ℕ, min}
 use Rattle.std.specs.List.{range_with_len}
 use Rattle.flow_graph.specs.Universes.{bits}
 use Rattle.flow_graph.specs.declared.analysis.Analysis.TheVariants.{Busy}
-use Rattle.flow_reports.specs.code.Busy.{AreBusy}
+use Rattle.report_answers.specs.code.Busy.{AreBusy}
 use Rattle.flow_reports.specs.code.Findings.{knowledge_of}
 use Rattle.flow_texts.specs.code.Members.{texts_where}
 use Rattle.text_pieces.specs.Pieces.{Writes}

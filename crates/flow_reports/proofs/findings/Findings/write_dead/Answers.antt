@@ -4,7 +4,8 @@ use Rattle.flow_graph.proofs.places.Standing.{stands}
 use Rattle.tac_program.specs.Programs.{Program}
 use Rattle.flow_reports.specs.code.Findings.{knowledge_of}
 use Rattle.flow_reports.specs.declared.remark.Remark.TheVariants.{Dead}
-use Rattle.flow_reports.proofs.knowledge.RemarkLines.{assigned_there, dead_is, next_below}
+use Rattle.flow_reports.proofs.knowledge.RemarkLines.{dead_is}
+use Rattle.report_answers.proofs.queries.Statements.{assigned_there, next_below}
 use Rattle.text_pieces.proofs.sinks.Taking.{takes_as}
 use Rattle.flow_reports.proofs.findings.Findings.write_dead.Goals as goal
 

@@ -1,15 +1,16 @@
 use Rattle.std.proofs.Common.{ℕ, List, [], ◌∷◌, ◌+◌, ◌<◌, flat_map, length, ap, ◌∙◌, sym, arith}
 use Rattle.std.proofs.lemmas.Option.{slice_get_within}
 use Rattle.flow_graph.specs.declared.analysis.Analysis.TheVariants.{Reach}
-use Rattle.flow_reports.specs.code.Chosen.{wanted_query}
-use Rattle.flow_reports.proofs.queries.Querying.{first_read, second_read}
+use Rattle.report_answers.specs.code.Chosen.{wanted_query}
+use Rattle.report_answers.proofs.queries.Querying.{first_read, second_read}
 use Rattle.tac_program.specs.Programs.{Program}
 use Rattle.flow_reports.specs.code.Findings.{knowledge_of}
-use Rattle.flow_reports.specs.code.Operands.{AreRead}
+use Rattle.report_answers.specs.code.Operands.{AreRead}
 use Rattle.flow_reports.specs.Reports.{Knowledge}
 use Rattle.flow_reports.specs.declared.remark.Remark.TheVariants.{Unset}
 use Rattle.text_pieces.proofs.sinks.Taking.{takes_as, takes_nothing, takes_then}
-use Rattle.flow_reports.proofs.knowledge.RemarkLines.{variables_are_there, unset_are, first_of, second_of, two_texts}
+use Rattle.flow_reports.proofs.knowledge.RemarkLines.{unset_are, two_texts}
+use Rattle.report_answers.proofs.queries.Statements.{variables_are_there, first_of, second_of}
 use Rattle.flow_reports.proofs.findings.Findings.write_unset.Goals as goal
 
 pub write_unset_variable-requires-clause-queried : goal.write_unset_variable-requires-clause-queried

@@ -1,2 +1,0 @@
-pub mod Querying
-pub mod Answered

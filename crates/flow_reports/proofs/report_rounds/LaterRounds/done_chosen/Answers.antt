@@ -1,8 +1,0 @@
-use Rattle.std.proofs.Common.{sym, subst}
-use Rattle.flow_reports.specs.code.Reported.{TellChosen}
-use Rattle.flow_reports.proofs.busy.Rest.{report_known}
-use Rattle.flow_reports.proofs.report_rounds.LaterRounds.done_chosen.Goals as goal
-
-pub returns : goal.returns
-returns c = subst (TellChosen c.args.self.rounds.chosen c.args._graph.now) (sym c.of_rounds.ensures)
-    (report_known c.args.self.rounds.chosen c.args._graph.now c.args.self c.requires.rest c.requires.none)

@@ -1,0 +1,4 @@
+pub mod Querying
+pub mod Answered
+pub mod Rising
+pub mod Statements
