@@ -5,14 +5,19 @@
 mod answer;
 mod arguments;
 mod fault;
+mod lists;
 mod output;
 mod parts;
 mod reports;
 mod runs;
 mod streams;
 
-pub use arguments::{cut_option, kind_word, number_of, workers_option};
+pub use arguments::{
+    cut_option, has_flag, kind_word, limits_by, limits_option, number_of, sizes, text_found,
+    workers_option,
+};
 pub use fault::{Fault, fault_line, line_with};
+pub use lists::has_word;
 pub use output::Output;
 pub use parts::{graph_of, pull_text, push_text};
 pub use reports::push_report;

@@ -3,14 +3,15 @@
 ghost use Rattle.std.specs.Prelude.{◌≡◌, ◌+◌, ◌-◌, ◌^◌, ◌<◌, IfErr, OnOk, true};
 ghost use Rattle.std.specs.Thread.{IsSync};
 ghost use Rattle.flow_reports.specs.Reports.{IsReport, ListsSafely};
-ghost use Rattle.flow_reports.specs.code.Reported.{TellReport};
+ghost use Rattle.report_answers.specs.code.Reported.{TellReport};
 ghost use Rattle.flow_runs.specs.Faults.{Delivers, OfProgram, write_faults_in};
 
 use crate::fault::Fault;
 use crate::parts::push_text;
 use flow_graph::Graph;
-use flow_reports::{ReportAnswers, ReportText};
+use flow_reports::ReportText;
 use flow_team::{Gate, Team};
+use report_answers::ReportAnswers;
 use std::alloc::Global;
 use std::thread::Threads;
 use text_pieces::Sink;

@@ -1,24 +1,37 @@
 //! `tacview`: reads a program of three-address code, and writes its flow graph with what holds at its points, for Graphviz or as
-//! lines of JSON, or the report on it, whole or a part of it. It merges such parts too.
+//! lines of JSON, or a page around these, or the report on it, whole or a part of it. It merges such parts too.
 #![tactic(auto)]
 
 use flow_runs::{fault_line, push_text, tell_line, tell_no_words, tell_words};
+use run_progress::{Progress, Terminal};
+use std::io::Write;
 use std::process::ExitCode;
 use std::thread::Threads;
 use std::{env, fs, io};
 use text_pieces::{Bytes, FromRead, ToWrite};
 use view_commands::{
-    Options, Progress, Terminal, file_line, files_to_merge, line_of, merge_files, run,
+    Counted, SLOW_PAGE, file_line, files_to_merge, large_page_line, line_of, merge_files, run,
 };
+use view_words::{Format, Options};
 
 /// The program's name, which its lines begin with.
 const NAME: &str = "tacview";
 
+// Tells of a page that takes long to open.
+fn tell_size(rt: &HostRuntime, format: Format, bytes: u64) {
+    if !matches!(format, Format::Html | Format::HtmlPaths) || bytes <= SLOW_PAGE {
+        return;
+    }
+    if let Ok(line) = large_page_line(rt.alloc(), bytes) {
+        let _ = rt.stderr().write_all(&line);
+    }
+}
+
 // `threads` is the runtime once more: it is a handle for threads only where `main` names it.
 fn run_by<R: Threads + Sync>(rt: &HostRuntime, threads: &R, options: &Options) -> ExitCode {
     let mut source = FromRead::new(rt.stdin());
-    let mut sink = ToWrite::new(rt.stdout());
-    let progress = Progress::new(rt.alloc(), Terminal::of(*rt));
+    let mut sink = Counted::new(ToWrite::new(rt.stdout()));
+    let progress = Progress::new(rt.alloc(), NAME, Terminal::of(*rt));
     match run(
         threads,
         rt.alloc(),
@@ -27,7 +40,10 @@ fn run_by<R: Threads + Sync>(rt: &HostRuntime, threads: &R, options: &Options) -
         options,
         &progress,
     ) {
-        Ok(()) => ExitCode::SUCCESS,
+        Ok(()) => {
+            tell_size(rt, options.format, sink.bytes());
+            ExitCode::SUCCESS
+        }
         Err(fault) => tell_line(rt, NAME, line_of(rt.alloc(), &options.asked, &fault)),
     }
 }

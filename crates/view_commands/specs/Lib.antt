@@ -1,6 +1,4 @@
 pub mod Views
-pub mod Kinds
-pub mod Commands
 pub mod Lines
 pub mod Merges
 pub mod code

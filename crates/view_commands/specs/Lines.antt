@@ -1,5 +1,5 @@
 -- The line on standard error for each fault.
-use Rattle.std.specs.Prelude.{ℕ, ◌+◌, ◌/◌, ◌%◌, ◌&&◌, ◌==◌, Bool, not, List, [], ◌∷◌, ◌++◌, flat_map, Option, None, Some, codes, nat_lt, if◌then◌else◌}
+use Rattle.std.specs.Prelude.{ℕ, ◌+◌, ◌/◌, ◌%◌, ◌&&◌, ◌==◌, Bool, not, List, [], ◌∷◌, ◌++◌, flat_map, Option, None, Some, codes, decimal, nat_lt, if◌then◌else◌}
 use Rattle.flow_runs.specs.FaultLines.{line_of_fault}
 use Rattle.flow_runs.specs.declared.fault.Fault.{Fault}
 use Rattle.flow_runs.specs.declared.fault.Fault.TheVariants as fault
@@ -36,3 +36,18 @@ abbrev pub fault_line : Option (List ℕ) → Option (List ℕ) → Fault → Li
 fault_line procedure place fault.NoProcedure = no_procedure_line procedure
 fault_line procedure place fault.NoRemark = no_remark_line place
 fault_line procedure place f = line_of_fault (codes "tacview") f
+
+-- What is told of a page of so many megabytes: a browser's longest string has some 536 million signs.
+abbrev pub slow_page_line : ℕ → List ℕ
+slow_page_line megabytes =
+    codes "tacview: " ++ (decimal megabytes
+    ++ codes " MB, a page that takes seconds to open: --procedure NAME shows one procedure, --facts LIST fewer facts\n")
+
+abbrev pub unopened_page_line : ℕ → List ℕ
+unopened_page_line megabytes =
+    codes "tacview: " ++ (decimal megabytes
+    ++ codes " MB, which no browser opens: --procedure NAME shows one procedure, --facts LIST fewer facts\n")
+
+-- the same of a page of so many bytes
+abbrev pub large_page_line : ℕ → List ℕ
+large_page_line bytes = if nat_lt 500000000 bytes then unopened_page_line (bytes / 1000000) else slow_page_line (bytes / 1000000)

@@ -1,5 +1,5 @@
 -- What is shown of a program.
-use Rattle.std.specs.Prelude.{◌≡◌, ℕ, List, [], Option, None, Some, slice_get}
+use Rattle.std.specs.Prelude.{◌≡◌, ℕ, true, false, List, [], Option, None, Some, slice_get}
 use Rattle.json_texts.specs.Changes.{IsJsonChanges}
 use Rattle.tac_program.specs.Programs.{Program}
 use Rattle.flow_parts.specs.Parts.{IsPart, digest_of}
@@ -11,8 +11,11 @@ use Rattle.flow_views.specs.Json.{IsJson}
 use Rattle.flow_views.specs.declared.view.Chosen.{Chosen}
 use Rattle.flow_views.specs.declared.view.Look.{Look}
 use Rattle.flow_views.specs.declared.view.View.{View}
-use Rattle.view_commands.specs.declared.options.Format.{Format}
-use Rattle.view_commands.specs.declared.options.Format.TheVariants as format
+use Rattle.page_texts.specs.Pages.{page_of}
+use Rattle.view_words.specs.Commands.{because_queried, look_of, name_queried, share_queried, title_queried}
+use Rattle.view_words.specs.declared.options.Format.{Format}
+use Rattle.view_words.specs.declared.options.Format.TheVariants as format
+use Rattle.view_words.specs.declared.options.Options.{Options}
 
 -- The procedure of this name has this number.
 abbrev pub HasProcedure : Program → List ℕ → ℕ → Type 0
@@ -38,23 +41,44 @@ abbrev pub IsReportOrPart : Option (ℕ × ℕ) → (digest : List ℕ) → Prog
 IsReportOrPart None digest program out = IsReport program out × ListsSafely program out
 IsReportOrPart (Some share) digest program out = IsPart program digest share.1 share.0 out
 
+-- A page around these lines, under this title.
+pub record IsPage (title : Option (List ℕ)) (IsLines : List ℕ → Type 0) (out : List ℕ) : Type 0 where
+  pub lines : List ℕ
+  pub are_lines : IsLines lines
+  pub is_page : out ≡ page_of title lines
+
 -- What is asked for of a program: which text, with the facts of which analyses, of which procedure, with the path of which use, which part
--- of a report, and how a picture looks.
+-- of a report, under which title, and how a picture looks.
 pub record Request : Type 0 where
   pub format : Format
   pub facts : Chosen
   pub name : Option (List ℕ)
   pub because : Option (List ℕ)
   pub share : Option (ℕ × ℕ)
+  pub title : Option (List ℕ)
   pub look : Look
+
+-- What options ask for of a program.
+abbrev pub request_of : Options → Request
+request_of options = record {
+  format = options.format;
+  facts = options.facts;
+  name = name_queried options;
+  because = because_queried options;
+  share = share_queried options;
+  title = title_queried options;
+  look = look_of options;
+}
 
 -- The text of each format. A report is of the whole program whatever the view.
 abbrev pub IsText : Format → Request → (digest : List ℕ) → Program → View → List ℕ → Type 0
 IsText format.Dot request digest program view out = IsPicture request.because program view out
 IsText format.Json request digest program view out = IsJson program view out
-IsText format.JsonPaths request digest program view out = IsJsonWithPaths program view out
+IsText format.JsonPaths request digest program view out = IsJsonWithPaths false program view out
 IsText format.JsonChanges request digest program view out = IsJsonChanges program view out
 IsText format.Report request digest program view out = IsReportOrPart request.share digest program out
+IsText format.Html request digest program view out = IsPage request.title (IsJsonChanges program view) out
+IsText format.HtmlPaths request digest program view out = IsPage request.title (IsJsonWithPaths true program view) out
 
 -- what is shown of these procedures
 abbrev pub view_for : Request → Option ℕ → View

@@ -4,9 +4,9 @@ ghost use Rattle.std.specs.Prelude.{◌≡◌, ◌<◌, ◌++◌, IfOk, OnOk, op
 ghost use Rattle.std.specs.String.{string_bytes};
 ghost use Rattle.view_commands.specs.Lines.{escaped, escaped_byte, hex_digit, is_plain, fault_line, missing_line, no_procedure_line, no_remark_line};
 
-use crate::options::Asked;
 use flow_runs::{Fault, OutOfMemory, fault_line, line_with};
 use std::alloc::Global;
+use view_words::Asked;
 
 fn is_plain(byte: u8) -> bool
     ensures { result ≡ is_plain byte }

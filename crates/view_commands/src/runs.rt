@@ -5,16 +5,16 @@ ghost use Rattle.std.specs.Io.KnownBytes.{Keeps};
 ghost use Rattle.flow_runs.specs.Faults.{UnlessWrite, WhereNoGraph, WhereNoProcedure, WhereNoRemark};
 ghost use Rattle.flow_runs.specs.Faults.{WhereRefused, WhereWrite, read_faults_in, write_faults_in};
 ghost use Rattle.flow_runs.specs.Runs.{PullsLacking, PullsOverLimit, PullsRefused, WritesAnswerOf, WritesBeginningOf};
-ghost use Rattle.view_commands.specs.Commands.{name_queried, request_of};
-ghost use Rattle.view_commands.specs.Views.{IsShown, LacksProcedure, LacksRemark};
+ghost use Rattle.view_commands.specs.Views.{IsShown, LacksProcedure, LacksRemark, request_of};
+ghost use Rattle.view_words.specs.Commands.{name_queried};
 
-use crate::options::Options;
-use crate::progress::Progress;
 use crate::views::GatedOptions;
 use flow_runs::Fault;
+use run_progress::Progress;
 use std::alloc::Global;
 use std::thread::Threads;
 use text_pieces::{Sink, Source};
+use view_words::Options;
 
 /// Pulls the text until the source has ended or one byte more is in hand than the options' limits allow, makes the text of the
 /// options' format of it, with the facts and of the procedures that they name, or the part of a report that they do, pushes that and nothing else, in pieces of 65,536

@@ -1,38 +1,41 @@
 // What is written of a program.
 
-ghost use Rattle.std.specs.Prelude.{◌≡◌, ◌+◌, ◌-◌, ◌^◌, ◌<◌, Some, IfOk, IfErr, IfSome, OnOk, MatchOption, length, true};
+ghost use Rattle.std.specs.Prelude.{◌≡◌, ◌+◌, ◌-◌, ◌^◌, ◌<◌, Some, IfOk, IfErr, IfSome, OnOk, MatchOption, false, length, option_map, true};
 ghost use Rattle.std.specs.Thread.{IsSync};
 ghost use Rattle.flow_graph.specs.Limits.{HasFewBits, HasFewPoints};
 ghost use Rattle.flow_paths.specs.Paths.{IsJsonWithPaths};
 ghost use Rattle.flow_paths.specs.Pictures.{IsDotWithPath, LacksUse};
 ghost use Rattle.flow_runs.specs.Faults.{Delivers, OfProgram, write_faults_in};
 ghost use Rattle.flow_runs.specs.Runs.{IsOverLimit};
-ghost use Rattle.flow_reports.specs.code.Reported.{TellReport};
+ghost use Rattle.report_answers.specs.code.Reported.{TellReport};
 ghost use Rattle.flow_views.specs.Dots.{IsDot};
 ghost use Rattle.flow_views.specs.Json.{IsJson};
 ghost use Rattle.flow_views.specs.ViewTables.{AreViewTables};
 ghost use Rattle.json_texts.specs.Changes.{IsJsonChanges};
 ghost use Rattle.flow_parts.specs.Parts.{IsPart};
-ghost use Rattle.view_commands.specs.Commands.{because_queried, name_queried, request_of, share_queried};
-ghost use Rattle.view_commands.specs.Views.{HasProcedure, IsPicture, IsReportOrPart, IsShownBy, IsText, LacksNamed, LacksProcedure};
-ghost use Rattle.view_commands.specs.Views.{LacksRemark, ShowsProcedure, digest_for, view_for};
+ghost use Rattle.page_texts.specs.Pages.{page_of};
+ghost use Rattle.view_commands.specs.Views.{HasProcedure, IsPage, IsPicture, IsReportOrPart, IsShownBy, IsText, LacksNamed, LacksProcedure};
+ghost use Rattle.view_commands.specs.Views.{LacksRemark, ShowsProcedure, digest_for, request_of, view_for};
+ghost use Rattle.view_words.specs.Commands.{because_queried, name_queried, share_queried, title_queried};
 
-use crate::options::{Format, Options};
-use crate::progress::Progress;
+use crate::sizes::{is_large, size_words};
 use dot_texts::DotText;
 use flow_graph::Graph;
 use flow_parts::{PartText, digest, part_bits};
 use flow_paths::{JsonPathsText, PathDotText};
-use flow_reports::ReportAnswers;
 use flow_runs::{Fault, OutOfMemory, Output, graph_of, push_report, push_text};
 use flow_team::Team;
-use flow_views::{View, ViewTables};
+use flow_views::{View, ViewTables, shown_points};
 use json_texts::{JsonChangesText, JsonText};
+use page_texts::PageText;
 use part_texts::Share;
+use report_answers::ReportAnswers;
+use run_progress::Progress;
 use std::alloc::Global;
 use std::thread::Threads;
 use tac_program::{Limits, Program};
-use text_pieces::Sink;
+use text_pieces::{Sink, Text};
+use view_words::{Format, Options};
 
 // The number of the procedure of this name.
 fn procedure_named(program: &Program, name: &[u8]) -> Option<u32>
@@ -133,6 +136,22 @@ fn push_path_dot<R: Threads + Sync, K: Sink>(
     push_text(alloc, &text, sink)
 }
 
+// Tells how many points a picture has.
+fn tell_size(alloc: Global, gate: &Progress, graph: &Graph<'_>, view: View)
+    requires { IfSome view.procedure (λ number. number < length graph.now.procedure_names) }
+{
+    // Its contract tells that each procedure has a name.
+    let _ = graph.points();
+    let points = shown_points(graph, view.procedure);
+    let count = points.end.saturating_sub(points.first);
+    if !is_large(count) {
+        return;
+    }
+    if let Ok(line) = size_words(alloc, count) {
+        gate.tell(&line);
+    }
+}
+
 // Writes it with the path of a use, where one is asked for.
 fn push_picture<R: Threads + Sync, K: Sink>(
     team: &Team<'_, R, Progress>,
@@ -150,6 +169,7 @@ fn push_picture<R: Threads + Sync, K: Sink>(
     ensures fault { IfErr result (OfProgram (λ _. ⊥) ⊥ (LacksNamed (because_queried options.now) graph.now view)) }
     ensures faults { K.faults sink.new ≡ K.faults sink.old + write_faults_in result }
 {
+    tell_size(alloc, team.gate, graph, view);
     match &options.asked.because {
         Some(place) => push_path_dot(team, alloc, graph, view, place.as_bytes(), sink),
         None => push_dot(team, alloc, graph, view, sink),
@@ -188,13 +208,13 @@ fn push_json_paths<R: Threads + Sync, K: Sink>(
     requires threads { IsSync R.row }
     requires below { K.faults sink.old < 2 ^ 32 - 1 }
     requires there { IfSome view.procedure (λ number. number < length graph.now.procedure_names) }
-    ensures delivers { Delivers (λ out. IsJsonWithPaths graph.now view out) (K.contents sink.old) (K.contents sink.new) result }
+    ensures delivers { Delivers (λ out. IsJsonWithPaths false graph.now view out) (K.contents sink.old) (K.contents sink.new) result }
     ensures flushed { OnOk result (K.flushed sink.new ≡ true) }
     ensures fault { IfErr result (OfProgram (λ _. ⊥) ⊥ ⊥) }
     ensures faults { K.faults sink.new ≡ K.faults sink.old + write_faults_in result }
 {
     let (tables, answers) = tables_and_answers(team, alloc, graph, view)?;
-    let text = JsonPathsText::of(alloc, graph, &tables, &answers, view)?;
+    let text = JsonPathsText::of(alloc, graph, &tables, &answers, view, false)?;
     push_text(alloc, &text, sink)
 }
 
@@ -217,6 +237,78 @@ fn push_json_changes<R: Threads + Sync, K: Sink>(
     let (tables, answers) = tables_and_answers(team, alloc, graph, view)?;
     let text = JsonChangesText::of(alloc, graph, &tables, &answers, view)?;
     push_text(alloc, &text, sink)
+}
+
+// The title that the options name.
+fn title_of(options: &Options) -> Option<&[u8]>
+    ensures { option_map (λ title. title.now) result ≡ title_queried options.now }
+{
+    match &options.asked.title {
+        Some(title) => Some(title.as_bytes()),
+        None => None,
+    }
+}
+
+// Writes the page around lines.
+fn push_page<T: Text, K: Sink>(
+    alloc: Global,
+    options: &Options,
+    lines: &T,
+    sink: &mut K,
+) -> Result<(), Fault>
+    requires below { K.faults sink.old < 2 ^ 32 - 1 }
+    ensures delivers { Delivers (λ out. out ≡ page_of (title_queried options.now) (T.bytes lines.now)) (K.contents sink.old) (K.contents sink.new) result }
+    ensures flushed { OnOk result (K.flushed sink.new ≡ true) }
+    ensures fault { IfErr result (OfProgram (λ _. ⊥) ⊥ ⊥) }
+    ensures faults { K.faults sink.new ≡ K.faults sink.old + write_faults_in result }
+{
+    let page = PageText::of(alloc, title_of(options), lines)?;
+    push_text(alloc, &page, sink)
+}
+
+// Writes the page around lines of JSON with differences.
+fn push_html<R: Threads + Sync, K: Sink>(
+    team: &Team<'_, R, Progress>,
+    alloc: Global,
+    graph: &Graph<'_>,
+    view: View,
+    options: &Options,
+    sink: &mut K,
+) -> Result<(), Fault>
+    requires threads { IsSync R.row }
+    requires below { K.faults sink.old < 2 ^ 32 - 1 }
+    requires there { IfSome view.procedure (λ number. number < length graph.now.procedure_names) }
+    ensures delivers { Delivers (IsPage (title_queried options.now) (IsJsonChanges graph.now view)) (K.contents sink.old) (K.contents sink.new) result }
+    ensures flushed { OnOk result (K.flushed sink.new ≡ true) }
+    ensures fault { IfErr result (OfProgram (λ _. ⊥) ⊥ ⊥) }
+    ensures faults { K.faults sink.new ≡ K.faults sink.old + write_faults_in result }
+{
+    let (tables, answers) = tables_and_answers(team, alloc, graph, view)?;
+    let lines = JsonChangesText::of(alloc, graph, &tables, &answers, view)?;
+    push_page(alloc, options, &lines, sink)
+}
+
+// Writes the page around lines with paths.
+fn push_html_paths<R: Threads + Sync, K: Sink>(
+    team: &Team<'_, R, Progress>,
+    alloc: Global,
+    graph: &Graph<'_>,
+    view: View,
+    options: &Options,
+    sink: &mut K,
+) -> Result<(), Fault>
+    requires threads { IsSync R.row }
+    requires below { K.faults sink.old < 2 ^ 32 - 1 }
+    requires there { IfSome view.procedure (λ number. number < length graph.now.procedure_names) }
+    ensures delivers { Delivers (IsPage (title_queried options.now) (IsJsonWithPaths true graph.now view)) (K.contents sink.old) (K.contents sink.new)
+        result }
+    ensures flushed { OnOk result (K.flushed sink.new ≡ true) }
+    ensures fault { IfErr result (OfProgram (λ _. ⊥) ⊥ ⊥) }
+    ensures faults { K.faults sink.new ≡ K.faults sink.old + write_faults_in result }
+{
+    let (tables, answers) = tables_and_answers(team, alloc, graph, view)?;
+    let lines = JsonPathsText::of(alloc, graph, &tables, &answers, view, true)?;
+    push_page(alloc, options, &lines, sink)
 }
 
 // Writes a part of the report.
@@ -295,6 +387,8 @@ fn view_of_graph<R: Threads + Sync, K: Sink>(
         Format::JsonPaths => push_json_paths(team, alloc, graph, view, sink),
         Format::JsonChanges => push_json_changes(team, alloc, graph, view, sink),
         Format::Report => push_report_or_part(team, alloc, graph, shown.digest, options, sink),
+        Format::Html => push_html(team, alloc, graph, view, options, sink),
+        Format::HtmlPaths => push_html_paths(team, alloc, graph, view, options, sink),
     }
 }
 

@@ -11,7 +11,7 @@ use tac_program::Limits;
 use test_support::failing_streams::Pieces;
 use test_support::worked_programs::series::{numbered, repeated};
 use test_support::worked_programs::{ALONE, smallest};
-use view_commands::Format;
+use view_words::Format;
 
 const LARGE_REPORT: Queried<'static> = Queried {
     limits: Limits::Large,

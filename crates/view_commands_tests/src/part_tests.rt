@@ -9,7 +9,8 @@ use std::thread::Threads;
 use tac_program::Limits;
 use test_support::failing_streams::blank_page;
 use test_support::worked_programs::{TEAMS, remarks};
-use view_commands::{Asked, Format, Options, file_line, files_to_merge, merge_files};
+use view_commands::{file_line, files_to_merge, merge_files};
+use view_words::{Asked, Format, Options};
 
 // The program has one group of variables and one of expressions, which are in part 2 of 2. The digest is that of `sha1sum`.
 const ONE: &str = "part 1 of 2 of 086f69e0e1f669186b8453b65bab087476c7703f\n\
@@ -43,6 +44,7 @@ pub(crate) fn options_of(
         procedure: None,
         because: None,
         share,
+        title: None,
         look: PLAIN,
     };
     Options::new(

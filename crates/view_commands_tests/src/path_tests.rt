@@ -7,7 +7,7 @@ use std::thread::Threads;
 use tac_program::Limits;
 use test_support::failing_streams::blank_page;
 use test_support::worked_programs::TEAMS;
-use view_commands::Format;
+use view_words::Format;
 
 const PATHS: Queried<'static> = Queried {
     limits: Limits::Standard,

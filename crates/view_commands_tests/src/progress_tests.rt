@@ -1,8 +1,9 @@
 // Lines of progress by hand, by times of a clock that are given.
 
+use run_progress::{Count, progress_words};
 use std::alloc::Global;
 use std::test::Fail;
-use view_commands::{Count, progress_words};
+use view_commands::{is_large, size_words};
 
 // What is told of three slices, which begin and are finished at these times, and when the work ends.
 fn lines_at(alloc: Global, count: &Count, times: &[u64]) -> Result<String, Fail> {
@@ -36,7 +37,7 @@ const TIMES: &[(u64, &[u64], &str)] = &[
 #[test]
 fn lines_by_the_clock(rt: HostRuntime) -> Result<(), Fail> {
     for (begun, times, want) in TIMES {
-        let count = Count::new();
+        let count = Count::new("tacview");
         count.begin(3, *begun);
         let output_of = lines_at(rt.alloc(), &count, times)?;
         assert_eq!(rt; output_of.as_str(), *want, "{times:?}");
@@ -47,7 +48,7 @@ fn lines_by_the_clock(rt: HostRuntime) -> Result<(), Fail> {
 // Later work is told from its first slice on, and counted from 0.
 #[test]
 fn lines_of_later_work(rt: HostRuntime) -> Result<(), Fail> {
-    let count = Count::new();
+    let count = Count::new("tacview");
     count.begin(2, 1);
     let first = lines_at(rt.alloc(), &count, &[5, 1900])?;
     assert_eq!(rt; first.as_str(), "");
@@ -72,8 +73,18 @@ const NUMBERS: &[(u32, u32, &str)] = &[
 #[test]
 fn numbers_in_words(rt: HostRuntime) -> Result<(), Fail> {
     for (finished, slices, want) in NUMBERS {
-        let words = progress_words(rt.alloc(), *finished, *slices)?;
+        let words = progress_words(rt.alloc(), "tacview", *finished, *slices)?;
         assert_eq!(rt; words.as_slice(), want.as_bytes());
     }
+    Ok(())
+}
+
+#[test]
+fn large_pictures_in_words(rt: HostRuntime) -> Result<(), Fail> {
+    assert!(rt; !is_large(400) && is_large(401));
+    let words = size_words(rt.alloc(), 401)?;
+    let want: &[u8] =
+        b"tacview: 401 points are many for a picture: --procedure NAME draws one procedure, --format html makes a page\n";
+    assert_eq!(rt; words.as_slice(), want);
     Ok(())
 }

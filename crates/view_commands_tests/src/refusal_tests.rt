@@ -12,7 +12,7 @@ use std::thread::Threads;
 use test_support::all_or_nothing;
 use test_support::failing_streams::blank_page;
 use test_support::worked_programs::{TEAMS, call_between, recursion, remarks, small};
-use view_commands::Options;
+use view_words::Options;
 
 // The answer to a text.
 fn check_view<R: Threads + Sync + Abort + AllocGlobal>(

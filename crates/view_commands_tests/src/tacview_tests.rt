@@ -4,6 +4,7 @@ use clap::error;
 use flow_graph::GraphFault;
 use flow_runs::Fault;
 use flow_views::{Chosen, Look};
+use run_progress::{Progress, Terminal};
 use std::alloc::Global;
 use std::io::{ErrorKind, Read};
 use std::process::Abort;
@@ -13,7 +14,8 @@ use tac_program::Limits;
 use test_support::failing_streams::{Page, Pieces, blank_page};
 use test_support::worked_programs::{ALONE, TEAMS, call_between, recursion, small};
 use text_pieces::{FromRead, ToWrite};
-use view_commands::{Asked, Format, Options, Progress, Terminal, line_of, run};
+use view_commands::{line_of, run};
+use view_words::{Asked, Format, Options};
 
 pub(crate) const NONE: Chosen = Chosen {
     reach: false,
@@ -70,10 +72,12 @@ pub(crate) const REPORT: Queried<'static> = Queried {
     because: None,
 };
 
-// Facts before statements alone, with the values at the beginning.
+// Facts before statements alone, in nodes, with the values at the beginning, and no legend.
 pub(crate) const PLAIN: Look = Look {
     hides_entry: false,
     behind: false,
+    hovers: false,
+    legend: false,
 };
 
 // A copy of a text, if there is one. None where memory is refused.
@@ -94,6 +98,7 @@ pub(crate) fn asked(
         procedure: copied(alloc, procedure)?,
         because: copied(alloc, because)?,
         share: None,
+        title: None,
         look: PLAIN,
     })
 }
@@ -120,7 +125,7 @@ pub(crate) fn run_to_page<R: Threads + Sync + AllocGlobal, D: Read + Drop>(
 ) -> Result<(), Fault> {
     let mut source = FromRead::new(reader);
     let mut sink = ToWrite::new(page);
-    let progress = Progress::new(rt.alloc(), Terminal::none());
+    let progress = Progress::new(rt.alloc(), "tacview", Terminal::none());
     run(rt, rt.alloc(), &mut source, &mut sink, options, &progress)
 }
 
@@ -195,9 +200,10 @@ pub(crate) fn check<R: Threads + Sync + Abort + AllocGlobal>(
 pub(crate) const SMALL_GRAPH: &str =
     "digraph \"tacflow\" {\n  graph [fontname=\"monospace\", labeljust=l];\n  \
     node [shape=box, fontname=\"monospace\", fontsize=11];\n  \
-    edge [fontname=\"monospace\", fontsize=10];\n  subgraph \"cluster_0\" {\n    \
-    label=\"main\";\n    \
-    0 [label=\"L:\\l2: x = 1\\lassignment to x is dead\\l\", style=filled, fillcolor=khaki];\n    1 [label=\"end of main\\l\"];\n  }\n  0 -> 1;\n}\n";
+    edge [class=\"step\", fontname=\"monospace\", fontsize=10];\n  subgraph \"cluster_0\" {\n    \
+    id=\"procedure0\";\n    class=\"procedure\";\n    label=\"main\";\n    \
+    0 [id=\"point0\", class=\"point dead\", label=\"L:\\l2: x = 1\\lassignment to x is dead\\l\", style=filled, fillcolor=khaki];\n    \
+    1 [id=\"point1\", class=\"point\", label=\"end of main\\l\"];\n  }\n  0 -> 1;\n}\n";
 
 pub(crate) const SMALL_LINES: &str =
     "{\"type\":\"program\",\"version\":1,\"points\":2,\"procedures\":[\"main\"],\"variables\":[\"x\"],\"definitions\":2,\"expressions\":0}\n\
@@ -216,24 +222,33 @@ const SMALL_REPORT: &str =
 const RECURSION_GRAPH: &str =
     "digraph \"tacflow\" {\n  graph [fontname=\"monospace\", labeljust=l];\n  \
     node [shape=box, fontname=\"monospace\", fontsize=11];\n  \
-    edge [fontname=\"monospace\", fontsize=10];\n  subgraph \"cluster_0\" {\n    \
-    label=\"main\";\n    0 [label=\"2: x = 1\\l\"];\n    1 [label=\"3: call f\\l\"];\n    \
-    2 [label=\"4: print x\\l\"];\n    3 [label=\"end of main\\l\"];\n  }\n  \
-    subgraph \"cluster_1\" {\n    label=\"f\";\n    4 [label=\"7: if x goto L\\l\"];\n    \
-    5 [label=\"8: call f\\l\"];\n    6 [label=\"9: x = 2\\l\"];\n    7 [label=\"L:\\lend of f\\l\"];\n  \
-    }\n  0 -> 1;\n  1 -> 4 [style=dashed, color=grey60, fontcolor=grey40, constraint=false, xlabel=\"call 3\"];\n  1 -> 2 [style=dotted, arrowhead=none];\n  2 -> 3;\n  4 -> 5 [label=\"F\"];\n  4 -> 7 [label=\"T\"];\n  \
-    5 -> 4 [style=dashed, color=grey60, fontcolor=grey40, constraint=false, xlabel=\"call 8\"];\n  5 -> 6 [style=dotted, arrowhead=none];\n  6 -> 7;\n  \
-    7 -> 2 [style=dashed, color=grey60, fontcolor=grey40, constraint=false, xlabel=\"return 3\"];\n  7 -> 6 [style=dashed, color=grey60, fontcolor=grey40, constraint=false, xlabel=\"return 8\"];\n}\n";
+    edge [class=\"step\", fontname=\"monospace\", fontsize=10];\n  subgraph \"cluster_0\" {\n    \
+    id=\"procedure0\";\n    class=\"procedure\";\n    label=\"main\";\n    0 [id=\"point0\", class=\"point\", label=\"2: x = 1\\l\"];\n    \
+    1 [id=\"point1\", class=\"point\", label=\"3: call f\\l\"];\n    \
+    2 [id=\"point2\", class=\"point\", label=\"4: print x\\l\"];\n    3 [id=\"point3\", class=\"point\", label=\"end of main\\l\"];\n  }\n  \
+    subgraph \"cluster_1\" {\n    id=\"procedure1\";\n    class=\"procedure\";\n    label=\"f\";\n    \
+    4 [id=\"point4\", class=\"point\", label=\"7: if x goto L\\l\"];\n    \
+    5 [id=\"point5\", class=\"point\", label=\"8: call f\\l\"];\n    6 [id=\"point6\", class=\"point\", label=\"9: x = 2\\l\"];\n    \
+    7 [id=\"point7\", class=\"point\", label=\"L:\\lend of f\\l\"];\n  \
+    }\n  0 -> 1;\n  1 -> 4 [class=\"call\", style=dashed, color=grey60, fontcolor=grey40, constraint=false, xlabel=\"call 3\"];\n  \
+    1 -> 2 [class=\"passed\", style=dotted, arrowhead=none];\n  2 -> 3;\n  4 -> 5 [label=\"F\"];\n  4 -> 7 [label=\"T\"];\n  \
+    5 -> 4 [class=\"call\", style=dashed, color=grey60, fontcolor=grey40, constraint=false, xlabel=\"call 8\"];\n  \
+    5 -> 6 [class=\"passed\", style=dotted, arrowhead=none];\n  6 -> 7;\n  \
+    7 -> 2 [class=\"return\", style=dashed, color=grey60, fontcolor=grey40, constraint=false, xlabel=\"return 3\"];\n  \
+    7 -> 6 [class=\"return\", style=dashed, color=grey60, fontcolor=grey40, constraint=false, xlabel=\"return 8\"];\n}\n";
 
 pub(crate) const F_GRAPH: &str =
     "digraph \"tacflow\" {\n  graph [fontname=\"monospace\", labeljust=l];\n  \
     node [shape=box, fontname=\"monospace\", fontsize=11];\n  \
-    edge [fontname=\"monospace\", fontsize=10];\n  subgraph \"cluster_1\" {\n    label=\"f\";\n    \
-    4 [label=\"7: if x goto L\\lreach: x@2\\l\"];\n    \
-    5 [label=\"8: call f\\lreach: x@2\\l\"];\n    \
-    6 [label=\"9: x = 2\\lreach: x@2, x@9\\l\"];\n    \
-    7 [label=\"L:\\lend of f\\lreach: x@2, x@9\\l\"];\n  }\n  4 -> 5 [label=\"F\"];\n  4 -> 7 [label=\"T\"];\n  \
-    5 -> 4 [style=dashed, color=grey60, fontcolor=grey40, constraint=false, xlabel=\"call 8\"];\n  5 -> 6 [style=dotted, arrowhead=none];\n  6 -> 7;\n  7 -> 6 [style=dashed, color=grey60, fontcolor=grey40, constraint=false, xlabel=\"return 8\"];\n}\n";
+    edge [class=\"step\", fontname=\"monospace\", fontsize=10];\n  subgraph \"cluster_1\" {\n    id=\"procedure1\";\n    \
+    class=\"procedure\";\n    label=\"f\";\n    \
+    4 [id=\"point4\", class=\"point\", label=\"7: if x goto L\\lreach: x@2\\l\"];\n    \
+    5 [id=\"point5\", class=\"point\", label=\"8: call f\\lreach: x@2\\l\"];\n    \
+    6 [id=\"point6\", class=\"point\", label=\"9: x = 2\\lreach: x@2, x@9\\l\"];\n    \
+    7 [id=\"point7\", class=\"point\", label=\"L:\\lend of f\\lreach: x@2, x@9\\l\"];\n  }\n  4 -> 5 [label=\"F\"];\n  4 -> 7 [label=\"T\"];\n  \
+    5 -> 4 [class=\"call\", style=dashed, color=grey60, fontcolor=grey40, constraint=false, xlabel=\"call 8\"];\n  \
+    5 -> 6 [class=\"passed\", style=dotted, arrowhead=none];\n  6 -> 7;\n  \
+    7 -> 6 [class=\"return\", style=dashed, color=grey60, fontcolor=grey40, constraint=false, xlabel=\"return 8\"];\n}\n";
 
 const F_LINES: &str =
     "{\"type\":\"program\",\"version\":1,\"points\":8,\"procedures\":[\"main\",\"f\"],\"variables\":[\"x\"],\"definitions\":3,\"expressions\":0}\n\
@@ -535,6 +550,9 @@ const ALL_WORDS: &[&str] = &[
     "--because=3:x",
 ];
 
+// A page with paths and a title.
+const TITLED: &[&str] = &["tacview", "--title", "a < b", "--paths", "--format=html"];
+
 #[test]
 fn words_that_are_taken(rt: HostRuntime) -> Result<(), Fail> {
     let (workers, cut, format, facts) = named_by(rt.alloc(), &["tacview"])?;
@@ -548,12 +566,23 @@ fn words_that_are_taken(rt: HostRuntime) -> Result<(), Fail> {
         &["tacview", "--format", "json", "--changes"],
     )?;
     assert!(rt; facts == ALL && format == Format::JsonChanges);
+    let (_, _, format, facts) = named_by(rt.alloc(), &["tacview", "--format", "html"])?;
+    assert!(rt; facts == ALL && format == Format::Html);
+    let (_, _, format, facts) = named_by(rt.alloc(), TITLED)?;
+    assert!(rt; facts == ALL && format == Format::HtmlPaths);
+    assert_eq!(rt;
+        asked_by(rt.alloc(), TITLED)?
+            .title
+            .ok_or("a title")?
+            .as_str(),
+        "a < b"
+    );
     let (_, _, format, facts) = named_by(rt.alloc(), &["tacview", "--format", "report"])?;
     assert!(rt; facts == NONE && format == Format::Report);
     let (workers, cut, _, facts) = named_by(rt.alloc(), ALL_WORDS)?;
     assert!(rt; workers == 64 && cut == 4096 && facts == ALL);
     let none = asked_by(rt.alloc(), &["tacview"])?;
-    assert!(rt; none.procedure.is_none() && none.because.is_none());
+    assert!(rt; none.procedure.is_none() && none.because.is_none() && none.title.is_none());
     let asked = asked_by(rt.alloc(), ALL_WORDS)?;
     assert_eq!(rt; asked.procedure.ok_or("a name")?.as_str(), "f");
     assert_eq!(rt; asked.because.ok_or("a place")?.as_str(), "3:x");
@@ -561,20 +590,47 @@ fn words_that_are_taken(rt: HostRuntime) -> Result<(), Fail> {
 }
 
 // Words for how a picture looks, and what they name.
-const LOOKS: &[(&[&str], bool, bool)] = &[
-    (&["tacview"], false, false),
-    (&["tacview", "--hide-entry"], true, false),
-    (&["tacview", "--facts-behind", "--format=dot"], false, true),
+const LOOKS: &[(&[&str], Look)] = &[
+    (&["tacview"], PLAIN),
+    (
+        &["tacview", "--hide-entry", "--legend"],
+        Look {
+            hides_entry: true,
+            behind: false,
+            hovers: false,
+            legend: true,
+        },
+    ),
+    (
+        &[
+            "tacview",
+            "--facts-on-hover",
+            "--facts-behind",
+            "--format=dot",
+        ],
+        Look {
+            hides_entry: false,
+            behind: true,
+            hovers: true,
+            legend: false,
+        },
+    ),
     (
         &["tacview", "--facts-behind", "--because=3", "--hide-entry"],
-        true,
-        true,
+        Look {
+            hides_entry: true,
+            behind: true,
+            hovers: false,
+            legend: false,
+        },
     ),
 ];
 
 // Looks go with pictures alone, and differences not with paths.
 const NO_LOOKS: &[&[&str]] = &[
     &["tacview", "--format=json", "--hide-entry"],
+    &["tacview", "--format=json", "--facts-on-hover"],
+    &["tacview", "--format=html", "--legend"],
     &["tacview", "--format=json", "--paths", "--facts-behind"],
     &["tacview", "--format=json", "--changes", "--facts-behind"],
     &["tacview", "--format=json", "--changes", "--paths"],
@@ -588,9 +644,9 @@ const NO_LOOKS: &[&[&str]] = &[
 
 #[test]
 fn looks_that_are_named(rt: HostRuntime) -> Result<(), Fail> {
-    for (words, hides_entry, behind) in LOOKS {
+    for (words, look) in LOOKS {
         let asked = asked_by(rt.alloc(), words)?;
-        assert!(rt; asked.look.hides_entry == *hides_entry && asked.look.behind == *behind);
+        assert!(rt; asked.look == *look);
     }
     for words in NO_LOOKS {
         match named_by(rt.alloc(), words) {
@@ -725,6 +781,10 @@ const REFUSED_WORDS: &[[&str; 3]] = &[
     ["tacview", "--format=report", "--because=3"],
     ["tacview", "--because=3", "--because=3"],
     ["tacview", "--facts=all", "--because"],
+    ["tacview", "--format=html", "--changes"],
+    ["tacview", "--format=html", "--because=3"],
+    ["tacview", "--format=html", "--part=1/2"],
+    ["tacview", "--format=json", "--title=a"],
     ["tacview", "--part=1/2", "--format=dot"],
     ["tacview", "--part=1/2", "--format=json"],
     ["tacview", "--format=report", "--part"],

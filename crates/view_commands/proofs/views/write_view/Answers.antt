@@ -2,8 +2,8 @@ use Rattle.std.proofs.Common.{subst}
 use Rattle.tac_program.specs.Programs.{Program}
 use Rattle.flow_runs.specs.Runs.{IsOverLimit}
 use Rattle.flow_runs.proofs.deliveries.Deliveries.{delivers_as, no_graph_fault}
-use Rattle.view_commands.specs.Commands.{because_queried, request_of}
-use Rattle.view_commands.specs.Views.{IsText, LacksNamed}
+use Rattle.view_commands.specs.Views.{IsText, LacksNamed, request_of}
+use Rattle.view_words.specs.Commands.{because_queried}
 use Rattle.view_commands.proofs.views.write_view.Goals as goal
 
 pub returns-clause-delivers : goal.returns-clause-delivers

@@ -1,8 +1,7 @@
 use Rattle.std.proofs.Common.{subst}
 use Rattle.flow_runs.proofs.deliveries.Deliveries.{delivers_as}
 use Rattle.flow_views.specs.declared.view.View.{View}
-use Rattle.view_commands.specs.Commands.{request_of}
-use Rattle.view_commands.specs.Views.{IsText}
+use Rattle.view_commands.specs.Views.{IsText, request_of}
 use Rattle.view_commands.proofs.views.GatedOptionsOutput.write.Goals as goal
 
 pub returns-clause-delivers : goal.returns-clause-delivers

@@ -1,0 +1,18 @@
+use Rattle.std.proofs.Common.{◌∙◌, sym, ap}
+use Rattle.std.specs.Prelude.{option_and_then}
+use Rattle.clap.specs.Words.{found_of, rows_of}
+use Rattle.view_words.specs.Commands.{has_picture}
+use Rattle.view_words.specs.Kinds.{with_picture}
+use Rattle.view_words.proofs.words.shown_format.Goals as goal
+
+pub returns-in-Some : goal.returns-in-Some
+returns-in-Some c =
+    let rows = rows_of (found_of c.args.matches.now) in
+    c.with_picture.ensures
+    ∙ ap (λ is. with_picture is c.in-Some.format) c.has_picture.ensures
+    ∙ ap (option_and_then (with_picture (has_picture rows))) (sym (sym c.format_with_changes.ensures ∙ c.in-Some.is))
+
+pub returns-in-None : goal.returns-in-None
+returns-in-None c =
+    let rows = rows_of (found_of c.args.matches.now) in
+    ap (option_and_then (with_picture (has_picture rows))) (sym (sym c.format_with_changes.ensures ∙ c.in-None.is))

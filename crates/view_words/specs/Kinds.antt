@@ -1,0 +1,113 @@
+-- The words of the formats and of the facts.
+use Rattle.std.specs.Prelude.{ℕ, Bool, true, false, List, [], ◌∷◌, Option, None, Some, bytes_eq, codes, if◌then◌else◌}
+use Rattle.std.specs.List.{list_all, list_any}
+use Rattle.flow_runs.specs.Words.{has_word, kind_named, words_in}
+use Rattle.flow_graph.specs.declared.analysis.TheConstants.Analysis as all
+use Rattle.flow_views.specs.Views.{analysis_name}
+use Rattle.flow_views.specs.declared.view.Chosen.{Chosen}
+use Rattle.view_words.specs.declared.options.Format.{Format}
+use Rattle.view_words.specs.declared.options.Format.TheVariants as format
+
+-- Each format with its word.
+abbrev pub formats : List (List ℕ × Format)
+formats = (codes "dot", format.Dot) ∷ (codes "json", format.Json) ∷ (codes "report", format.Report) ∷ (codes "html", format.Html) ∷ []
+
+-- The format that a word names.
+abbrev pub format_named : List ℕ → Option Format
+format_named = kind_named formats
+
+-- The format with paths, where they are asked for: only lines of JSON have them, and the page around them.
+abbrev pub with_paths : Bool → Format → Option Format
+with_paths false format = Some format
+with_paths true format.Dot = None
+with_paths true format.Json = Some format.JsonPaths
+with_paths true format.JsonPaths = Some format.JsonPaths
+with_paths true format.JsonChanges = None
+with_paths true format.Report = None
+with_paths true format.Html = Some format.HtmlPaths
+with_paths true format.HtmlPaths = Some format.HtmlPaths
+
+-- The format with differences in place of sets, where they are asked for: only lines of JSON without paths have them.
+abbrev pub with_changes : Bool → Format → Option Format
+with_changes false format = Some format
+with_changes true format.Dot = None
+with_changes true format.Json = Some format.JsonChanges
+with_changes true format.JsonPaths = None
+with_changes true format.JsonChanges = Some format.JsonChanges
+with_changes true format.Report = None
+with_changes true format.Html = None
+with_changes true format.HtmlPaths = None
+
+-- The format, where it fits to what is asked for: pictures alone have it.
+abbrev pub with_picture : Bool → Format → Option Format
+with_picture false format = Some format
+with_picture true format.Dot = Some format.Dot
+with_picture true format.Json = None
+with_picture true format.JsonPaths = None
+with_picture true format.JsonChanges = None
+with_picture true format.Report = None
+with_picture true format.Html = None
+with_picture true format.HtmlPaths = None
+
+-- The format, where it fits to what is asked for: a report alone has parts.
+abbrev pub with_part : Bool → Format → Option Format
+with_part false format = Some format
+with_part true format.Dot = None
+with_part true format.Json = None
+with_part true format.JsonPaths = None
+with_part true format.JsonChanges = None
+with_part true format.Report = Some format.Report
+with_part true format.Html = None
+with_part true format.HtmlPaths = None
+
+-- The format, where it fits to what is asked for: a page alone has a title.
+abbrev pub with_title : Bool → Format → Option Format
+with_title false format = Some format
+with_title true format.Dot = None
+with_title true format.Json = None
+with_title true format.JsonPaths = None
+with_title true format.JsonChanges = None
+with_title true format.Report = None
+with_title true format.Html = Some format.Html
+with_title true format.HtmlPaths = Some format.HtmlPaths
+
+abbrev pub no_facts : Chosen
+no_facts = record { reach = false; live = false; avail = false; busy = false }
+
+abbrev pub all_facts : Chosen
+all_facts = record { reach = true; live = true; avail = true; busy = true }
+
+-- Whether a word is what an analysis is called.
+abbrev pub is_fact : List ℕ → Bool
+is_fact word = list_any (λ analysis. bytes_eq (analysis_name analysis) word) all.ALL
+
+-- The analyses whose words a list has.
+abbrev pub chosen_in : List ℕ → Chosen
+chosen_in list = record {
+  reach = has_word (codes "reach") list;
+  live = has_word (codes "live") list;
+  avail = has_word (codes "avail") list;
+  busy = has_word (codes "busy") list;
+}
+
+-- The facts that a list names: `none`, `all`, or those of the analyses whose words it has, where it has no other word.
+abbrev pub facts_named : List ℕ → Option Chosen
+facts_named list =
+    if bytes_eq list (codes "none") then Some no_facts
+    else (if bytes_eq list (codes "all") then Some all_facts
+    else (if list_all is_fact (words_in list) then Some (chosen_in list) else None))
+
+-- The facts that are shown where no list says which. A report shows none.
+abbrev pub facts_by_format : Format → Chosen
+facts_by_format format.Dot = no_facts
+facts_by_format format.Json = all_facts
+facts_by_format format.JsonPaths = all_facts
+facts_by_format format.JsonChanges = all_facts
+facts_by_format format.Report = no_facts
+facts_by_format format.Html = all_facts
+facts_by_format format.HtmlPaths = all_facts
+
+-- The facts that are asked for, by a list or by none.
+abbrev pub facts_queried : Format → Option (List ℕ) → Option Chosen
+facts_queried format None = Some (facts_by_format format)
+facts_queried format (Some list) = facts_named list
