@@ -1,23 +1,13 @@
--- The words of the limits, of the forms, of when there are colours, and of the kinds of lints.
-use Rattle.std.specs.Prelude.{◌==◌, ℕ, Bool, true, List, [], ◌∷◌, Option, None, Some, bytes_eq, codes, if◌then◌else◌}
-use Rattle.std.specs.List.{list_all, list_any, slice_split}
-use Rattle.flow_runs.specs.Words.{kind_named}
+-- The words of the forms, of when there are colours, and of the kinds of lints.
+use Rattle.std.specs.Prelude.{ℕ, Bool, true, List, [], ◌∷◌, Option, None, Some, bytes_eq, codes, if◌then◌else◌}
+use Rattle.std.specs.List.{list_all, list_any}
+use Rattle.flow_runs.specs.Words.{has_word, kind_named, words_in}
 use Rattle.lint_commands.specs.declared.options.Coloring.{Coloring}
 use Rattle.lint_commands.specs.declared.options.Coloring.TheVariants.{Auto, Always, Never}
 use Rattle.lint_commands.specs.declared.options.Form.{Form}
 use Rattle.lint_commands.specs.declared.options.Form.TheVariants as form
 use Rattle.lint_texts.specs.LintTexts.{usual_kinds}
 use Rattle.lint_texts.specs.declared.kinds.Kinds.{Kinds}
-use Rattle.tac_program.specs.declared.limits.Limits.{Limits}
-use Rattle.tac_program.specs.declared.limits.Limits.TheVariants.{Standard, Large}
-
--- The limits with their words.
-abbrev pub sizes : List (List ℕ × Limits)
-sizes = (codes "standard", Standard) ∷ (codes "large", Large) ∷ []
-
--- The limits that a word names.
-abbrev pub limits_named : List ℕ → Option Limits
-limits_named = kind_named sizes
 
 -- In which form it is written, with the words for it.
 abbrev pub forms : List (List ℕ × Form)
@@ -43,13 +33,6 @@ kind_names =
 
 abbrev pub is_kind : List ℕ → Bool
 is_kind word = list_any (λ name. bytes_eq name word) kind_names
-
--- The words between the commas of a list.
-abbrev pub words_in : List ℕ → List (List ℕ)
-words_in list = slice_split (λ b. b == 44) list
-
-abbrev pub has_word : List ℕ → List ℕ → Bool
-has_word word list = list_any (λ w. bytes_eq w word) (words_in list)
 
 -- The kinds whose words a list has.
 abbrev pub kinds_in : List ℕ → Kinds

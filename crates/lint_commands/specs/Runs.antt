@@ -36,6 +36,7 @@ pub record Wanted : Type 0 where
   pub limits : Limits
   pub kinds : Kinds
   pub name : Option (List ℕ)
+  pub why : Bool
   pub form : Form
   pub style : Style
   pub file : FileText
@@ -46,7 +47,7 @@ name_asked request = option_map (λ name. name.now) request.procedure
 
 abbrev pub wanted_by : Limits → Request → FileText → Wanted
 wanted_by limits request file =
-    record { limits = limits; kinds = request.kinds; name = name_asked request; form = request.form; style = request.style; file = file }
+    record { limits = limits; kinds = request.kinds; name = name_asked request; why = request.why; form = request.form; style = request.style; file = file }
 
 abbrev pub wanted : Wish → List ℕ → Wanted
 wanted wish text = wanted_by wish.limits wish.request (record { name = wish.name.now; text = text })
@@ -69,11 +70,11 @@ LacksProcedure None program = ⊥
 LacksProcedure (Some name) program = (number : ℕ) → ¬ (HasProcedure program name number)
 
 -- what is told of a program where that procedure has this number
-abbrev pub telling_by : Kinds → Style → Option ℕ → Telling
-telling_by kinds style procedure = record { kinds = kinds; procedure = procedure; style = style }
+abbrev pub telling_by : Kinds → (why : Bool) → Style → Option ℕ → Telling
+telling_by kinds why style procedure = record { kinds = kinds; procedure = procedure; why = why; style = style }
 
 abbrev pub telling_of : Wanted → Option ℕ → Telling
-telling_of w = telling_by w.kinds w.style
+telling_of w = telling_by w.kinds w.why w.style
 
 abbrev pub told_by : Bool → Told
 told_by true = told.Remarks

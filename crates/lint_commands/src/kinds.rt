@@ -2,8 +2,10 @@
 
 ghost use Rattle.std.specs.Prelude.{◌≡◌};
 ghost use Rattle.std.specs.List.{list_all};
-ghost use Rattle.lint_commands.specs.Kinds.{has_word, is_kind, kinds_in, kinds_named, words_in};
+ghost use Rattle.flow_runs.specs.Words.{words_in};
+ghost use Rattle.lint_commands.specs.Kinds.{is_kind, kinds_in, kinds_named};
 
+use flow_runs::has_word;
 use lint_texts::Kinds;
 
 /// All kinds.
@@ -32,12 +34,6 @@ fn has_kinds_alone(list: &str) -> bool
     ensures { result ≡ list_all is_kind (words_in list.now) }
 {
     list.split(',').all(|word| is_kind(word))
-}
-
-fn has_word(list: &str, word: &str) -> bool
-    ensures { result ≡ has_word word.now list.now }
-{
-    list.split(',').any(|one| one == word)
 }
 
 fn kinds_in(list: &str) -> Kinds

@@ -12,6 +12,6 @@ mod words;
 pub use failures::failed_line;
 pub use missing::missing_line;
 pub use options::{Coloring, Form, Options};
-pub use runs::{Request, Wish, run};
+pub use runs::{Crew, Request, Wish, run};
 pub use std::alloc::AllocError as OutOfMemory;
 pub use told::Told;

@@ -31,6 +31,8 @@ pub struct Options {
     pub kinds: Kinds,
     /// The name of the one procedure of which remarks are told; without it of all.
     pub procedure: Option<String>,
+    /// Whether the way is told by which a variable is not set.
+    pub why: bool,
     /// In which form is written what is told.
     pub format: Form,
     /// Whether lines of the source are shown anywhere; at a terminal they are.
@@ -39,6 +41,8 @@ pub struct Options {
     pub color: Coloring,
     /// Whether a remark is told by the status.
     pub error: bool,
+    /// How many threads find what is told, 1 to 64.
+    pub workers: u32,
     /// The files' names; without one standard input is read.
     pub files: Vec<String>,
 }

@@ -3,7 +3,7 @@
 ghost use Rattle.std.specs.Prelude.{◌≡◌, ◌<◌, ◌+◌, ◌-◌, ◌^◌, true, false, Some, IfErr, IfOk, MatchOption, OnOk, option_map};
 ghost use Rattle.std.specs.Io.KnownBytes.{Keeps};
 ghost use Rattle.flow_lints.specs.Lints.{IsLinted};
-ghost use Rattle.flow_reports.specs.code.Reported.{TellReport};
+ghost use Rattle.report_answers.specs.code.Reported.{TellReport};
 ghost use Rattle.flow_runs.specs.Faults.{Delivers, OfProgram, UnlessWrite, WhereNoGraph, WhereNoProcedure, WhereNoRemark};
 ghost use Rattle.flow_runs.specs.Faults.{WhereRefused, WhereWrite, read_faults_in, write_faults_in};
 ghost use Rattle.flow_runs.specs.Runs.{HasNoGraph, IsOverLimit, Lacking, PullsLacking, PullsOverLimit};
@@ -14,20 +14,26 @@ ghost use Rattle.lint_json.specs.LintJson.{IsLintJson};
 ghost use Rattle.lint_json.specs.RefusalJson.{refusal_json_of};
 ghost use Rattle.lint_texts.specs.LintTexts.{IsLintText, file_text};
 
+use crate::OutOfMemory;
 use crate::options::Form;
 use crate::told::Told;
 use flow_graph::Graph;
 use flow_lints::{Linted, linted};
-use flow_reports::ReportAnswers;
 use flow_runs::{Fault, graph_of, pull_text, push_text};
+use flow_team::{Gate, Team};
 use lint_json::{lint_json, refusal_json};
 use lint_texts::{File, Kinds, LintText, Style, Telling};
 use refusal_texts::{RefusalText, ToldRefusal, told_refusals};
+use report_answers::ReportAnswers;
 use std::alloc::Global;
+use std::thread::Threads;
 use tac_lines::ReadFault;
 use tac_program::{Limits, Program};
 use tac_reader::read_within;
 use text_pieces::{Bytes, Sink, Source};
+
+// So many bits a worker takes at a time, where several share the work.
+const CUT: u32 = 64;
 
 /// What is asked for of each file.
 #[derive(Clone, Copy)]
@@ -36,6 +42,8 @@ pub struct Request<'a> {
     pub kinds: Kinds,
     /// The name of the one procedure of which they are told; without it of all.
     pub procedure: Option<&'a [u8]>,
+    /// Whether the way is told by which a variable is not set.
+    pub why: bool,
     /// In which form they are written.
     pub form: Form,
     /// How they are shown.
@@ -51,6 +59,17 @@ pub struct Wish<'a> {
     pub request: Request<'a>,
     /// What it is called.
     pub name: &'a [u8],
+}
+
+/// Who finds what is told.
+#[derive(Drop)]
+pub struct Crew<'a, R, G> {
+    /// Starts the threads.
+    pub threads: &'a R,
+    /// Is told of each slice of the work.
+    pub gate: &'a G,
+    /// How many threads work, 1 to 64. With another number the calling thread works alone.
+    pub workers: u32,
 }
 
 // What is asked for of a file that was read.
@@ -198,8 +217,23 @@ fn push_answers<K: Sink>(
     }
 }
 
+// The answers to what a report on a graph asks.
+fn answered<R: Threads + Sync, G: Gate>(
+    crew: &Crew<'_, R, G>,
+    alloc: Global,
+    graph: &Graph<'_>,
+) -> Result<ReportAnswers, OutOfMemory>
+    ensures { IfOk result (TellReport graph.now) }
+{
+    match Team::of(crew.threads, crew.gate, crew.workers, CUT) {
+        Some(team) => ReportAnswers::of(&team, alloc, graph),
+        None => ReportAnswers::answered_here(alloc, graph),
+    }
+}
+
 // Writes the text of a graph's lints.
-fn push_graph<K: Sink>(
+fn push_graph<R: Threads + Sync, G: Gate, K: Sink>(
+    crew: &Crew<'_, R, G>,
     alloc: Global,
     shown: Shown<'_>,
     graph: &Graph<'_>,
@@ -212,12 +246,13 @@ fn push_graph<K: Sink>(
     ensures fault { IfErr result (OfProgram (λ _. ⊥) ⊥ ⊥) }
     ensures faults { K.faults sink.new ≡ K.faults sink.old + write_faults_in result }
 {
-    let answers = ReportAnswers::answered_here(alloc, graph)?;
+    let answers = answered(crew, alloc, graph)?;
     push_answers(alloc, shown, graph, &answers, sink)
 }
 
 // Writes what is told of a program, of the procedure of this number where there is one.
-fn push_shown<K: Sink>(
+fn push_shown<R: Threads + Sync, G: Gate, K: Sink>(
+    crew: &Crew<'_, R, G>,
     alloc: Global,
     asked: Asked<'_>,
     program: &Program,
@@ -235,9 +270,11 @@ fn push_shown<K: Sink>(
     let telling = Telling {
         kinds: asked.request.kinds,
         procedure,
+        why: asked.request.why,
         style: asked.request.style,
     };
     push_graph(
+        crew,
         alloc,
         Shown {
             form: asked.request.form,
@@ -250,7 +287,8 @@ fn push_shown<K: Sink>(
 }
 
 // Writes what is told of a program.
-fn push_lints<K: Sink>(
+fn push_lints<R: Threads + Sync, G: Gate, K: Sink>(
+    crew: &Crew<'_, R, G>,
     alloc: Global,
     asked: Asked<'_>,
     program: &Program,
@@ -264,7 +302,7 @@ fn push_lints<K: Sink>(
     ensures faults { K.faults sink.new ≡ K.faults sink.old + write_faults_in result }
 {
     match procedure_asked(program, asked.request.procedure) {
-        Some(procedure) => push_shown(alloc, asked, program, procedure, sink),
+        Some(procedure) => push_shown(crew, alloc, asked, program, procedure, sink),
         None => Err(Fault::NoProcedure),
     }
 }
@@ -273,17 +311,17 @@ fn push_lints<K: Sink>(
 fn push_error_json<K: Sink>(
     alloc: Global,
     file: File<'_>,
-    told: &[ToldRefusal],
+    found: &[ToldRefusal],
     sink: &mut K,
 ) -> Result<(), Fault>
     requires { K.faults sink.old < 2 ^ 32 - 1 }
-    ensures delivers { Delivers (λ out. out ≡ refusal_json_of file.entry.name.now file.entry.text.now told.now)
+    ensures delivers { Delivers (λ out. out ≡ refusal_json_of file.entry.name.now file.entry.text.now found.now)
         (K.contents sink.old) (K.contents sink.new) result }
     ensures flushed { OnOk result (K.flushed sink.new ≡ true) }
     ensures fault { IfErr result (OfProgram (λ _. ⊥) ⊥ ⊥) }
     ensures faults { K.faults sink.new ≡ K.faults sink.old + write_faults_in result }
 {
-    let text = refusal_json(alloc, file.name, file.text, told)?;
+    let text = refusal_json(alloc, file.name, file.text, found)?;
     push_text(alloc, &Bytes(text.as_slice()), sink)
 }
 
@@ -291,11 +329,11 @@ fn push_error_json<K: Sink>(
 fn push_refusals<K: Sink>(
     alloc: Global,
     asked: Asked<'_>,
-    told: &[ToldRefusal],
+    found: &[ToldRefusal],
     sink: &mut K,
 ) -> Result<(), Fault>
     requires { K.faults sink.old < 2 ^ 32 - 1 }
-    ensures delivers { Delivers (λ out. out ≡ errors_text asked.entry.request.form asked.entry.request.style (file_text asked.entry.file) told.now)
+    ensures delivers { Delivers (λ out. out ≡ errors_text asked.entry.request.form asked.entry.request.style (file_text asked.entry.file) found.now)
         (K.contents sink.old) (K.contents sink.new) result }
     ensures flushed { OnOk result (K.flushed sink.new ≡ true) }
     ensures fault { IfErr result (OfProgram (λ _. ⊥) ⊥ ⊥) }
@@ -308,11 +346,11 @@ fn push_refusals<K: Sink>(
                 style: asked.request.style,
                 file: file.name,
                 text: file.text,
-                told,
+                found,
             };
             push_text(alloc, &text, sink)
         }
-        Form::Json => push_error_json(alloc, file, told, sink),
+        Form::Json => push_error_json(alloc, file, found, sink),
     }
 }
 
@@ -324,15 +362,20 @@ fn push_errors<K: Sink>(alloc: Global, asked: Asked<'_>, sink: &mut K) -> Result
     ensures fault { IfErr result (OfProgram (λ _. ⊥) ⊥ ⊥) }
     ensures faults { K.faults sink.new ≡ K.faults sink.old + write_faults_in result }
 {
-    let told = told_refusals(alloc, asked.limits, asked.file.text)?;
-    match push_refusals(alloc, asked, told.as_slice(), sink) {
+    let found = told_refusals(alloc, asked.limits, asked.file.text)?;
+    match push_refusals(alloc, asked, found.as_slice(), sink) {
         Ok(()) => Ok(Told::Errors),
         Err(fault) => Err(fault),
     }
 }
 
 // Writes what is told of a text.
-fn tell<K: Sink>(alloc: Global, asked: Asked<'_>, sink: &mut K) -> Result<Told, Fault>
+fn tell<R: Threads + Sync, G: Gate, K: Sink>(
+    crew: &Crew<'_, R, G>,
+    alloc: Global,
+    asked: Asked<'_>,
+    sink: &mut K,
+) -> Result<Told, Fault>
     requires { K.faults sink.old < 2 ^ 32 - 1 }
     ensures delivers { DeliversBy (Tells (wanted_of asked.entry)) (K.contents sink.old) (K.contents sink.new) result }
     ensures flushed { OnOk result (K.flushed sink.new ≡ true) }
@@ -342,14 +385,14 @@ fn tell<K: Sink>(alloc: Global, asked: Asked<'_>, sink: &mut K) -> Result<Told, 
     ensures faults { K.faults sink.new ≡ K.faults sink.old + write_faults_in result }
 {
     match read_within(alloc, asked.file.text, asked.limits) {
-        Ok(program) => push_lints(alloc, asked, &program, sink),
+        Ok(program) => push_lints(crew, alloc, asked, &program, sink),
         Err(ReadFault::Refused(_)) => push_errors(alloc, asked, sink),
         Err(ReadFault::OutOfMemory) => Err(Fault::OutOfMemory),
     }
 }
 
 /// Pulls the text of a file until the source has ended or one byte more is in hand than the limits allow; writes the lints of the program
-/// that it is, or all that is wrong with it where it is none, and nothing else; and flushes. Answers which of these was told.
+/// that it is, or all that is wrong with it where it is none, and nothing else; and flushes. Answers which of these was told. The crew finds it, and what is written is the same for each.
 ///
 /// The condition: the source has not ended, and both counts of faults are below `u32::MAX`.
 ///
@@ -358,7 +401,8 @@ fn tell<K: Sink>(alloc: Global, asked: Asked<'_>, sink: &mut K) -> Result<Told, 
 /// - `OutOfMemory`: memory was refused.
 /// - `Read`: a pull was answered by a fault. `Write`: a push or the flush was; a beginning of what is to be told was pushed. After every
 ///   other fault nothing was.
-pub fn run<S: Source, K: Sink>(
+pub fn run<R: Threads + Sync, G: Gate, S: Source, K: Sink>(
+    crew: &Crew<'_, R, G>,
     alloc: Global,
     wish: Wish<'_>,
     source: &mut S,
@@ -392,5 +436,5 @@ pub fn run<S: Source, K: Sink>(
             text: text.as_slice(),
         },
     };
-    tell(alloc, asked, sink)
+    tell(crew, alloc, asked, sink)
 }

@@ -3,12 +3,11 @@
 ghost use Rattle.std.specs.Prelude.{◌≡◌, Some, false, map, codes, is_some, IfOk, IfSome, option_and_then, option_map};
 ghost use Rattle.std.specs.String.{string_bytes};
 ghost use Rattle.clap.specs.Words.{FailsBy, app_of, first_of, found_of, rows_of, rule_of};
-ghost use Rattle.flow_runs.specs.Words.{AreKindsOf, kind_rule};
+ghost use Rattle.flow_runs.specs.Words.{AreKindsOf, flag_rule, kind_rule, text_rule};
 ghost use Rattle.flow_runs.specs.code.Matches.{HoldsKind};
-ghost use Rattle.lint_commands.specs.Commands.{AnswersWords, NamesOptions, files_queried, flag_rule, form_command, has_flag, kinds_command};
-ghost use Rattle.lint_commands.specs.Commands.{knows_kinds, option_kinds, style_command, taclint_command, text_rule, words_rule};
+ghost use Rattle.lint_commands.specs.Commands.{AnswersWords, NamesOptions, files_queried, form_command, kinds_command};
+ghost use Rattle.lint_commands.specs.Commands.{knows_kinds, option_kinds, style_command, taclint_command, words_rule};
 ghost use Rattle.lint_commands.specs.Kinds.{coloring_named, colorings as known_colorings, form_named, forms as known_forms, kinds_queried};
-ghost use Rattle.lint_commands.specs.Kinds.{limits_named, sizes as known_sizes};
 ghost use Rattle.lint_commands.specs.code.Matches.{HoldsOptions};
 
 use crate::OutOfMemory;
@@ -17,10 +16,11 @@ use crate::options::{Coloring, Form, Options};
 use clap::builder::PossibleValue;
 use clap::error::ErrorKind;
 use clap::{Arg, ArgAction, ArgMatches, Command, Error};
-use flow_runs::kind_word;
+use flow_runs::{
+    has_flag, kind_word, limits_by, limits_option, number_of, sizes, text_found, workers_option,
+};
 use lint_texts::Kinds;
 use std::alloc::Global;
-use tac_program::Limits;
 
 const ABOUT: &str =
     "Tells what is worth a look in programs of three-address code, line by line, or what is wrong with a text that is no program.";
@@ -36,29 +36,6 @@ const AFTER_HELP: &str =
 const NO_KINDS: &str =
     "the value of '--kinds <LIST>' is all, or words of dead, unset, never-called, never-reached, computed and busy with commas \
     between them";
-
-fn limits_of(word: &str) -> Option<Limits>
-    ensures { result ≡ limits_named word.now }
-{
-    match word {
-        "standard" => Some(Limits::Standard),
-        "large" => Some(Limits::Large),
-        _ => None,
-    }
-}
-
-fn sizes<'a>() -> [PossibleValue<'a>; 2]
-    ensures { AreKindsOf known_sizes result }
-{
-    [
-        PossibleValue::new("standard").help(
-            "A text of 1,048,576 bytes, 256 procedures, 16,384 points, 4,096 bits in each analysis",
-        ),
-        PossibleValue::new("large").help(
-            "A text of 67,108,864 bytes, 16,384 procedures, 1,048,576 points, 131,072 variables, as many expressions",
-        ),
-    ]
-}
 
 fn coloring_of(word: &str) -> Option<Coloring>
     ensures { result ≡ coloring_named word.now }
@@ -100,19 +77,6 @@ fn forms<'a>() -> [PossibleValue<'a>; 2]
     ]
 }
 
-fn limits_option<'a>(alloc: Global, sizes: &'a [PossibleValue<'a>]) -> Arg<'a>
-    ensures rule { rule_of result ≡ kind_rule (codes "limits") (codes "standard") sizes.entry }
-    ensures own { result.global ≡ false }
-{
-    Arg::new(alloc, "limits")
-        .long("limits")
-        .value_name("SIZE")
-        .action(ArgAction::Set)
-        .value_parser(sizes)
-        .default_value("standard")
-        .help("How large a text and its program may be")
-}
-
 fn kinds_option<'a>(alloc: Global) -> Arg<'a>
     ensures rule { rule_of result ≡ text_rule (codes "kinds") }
     ensures own { result.global ≡ false }
@@ -136,6 +100,18 @@ fn procedure_option<'a>(alloc: Global) -> Arg<'a>
         .value_name("NAME")
         .action(ArgAction::Set)
         .help("The one procedure of which remarks are told; each file has to have it")
+}
+
+fn why_option<'a>(alloc: Global) -> Arg<'a>
+    ensures rule { rule_of result ≡ flag_rule (codes "why") }
+    ensures own { result.global ≡ false }
+{
+    Arg::new(alloc, "why")
+        .long("why")
+        .action(ArgAction::SetTrue)
+        .help(
+            "Tell behind each variable that may be used before it is set the way by which that comes to be",
+        )
 }
 
 fn format_option<'a>(alloc: Global, forms: &'a [PossibleValue<'a>]) -> Arg<'a>
@@ -209,7 +185,7 @@ fn kinds_command<'a>(
         .arg(procedure_option(alloc))
 }
 
-// The command with these, and with the one that says in which form it is written.
+// The command with these, and with those that say whether ways are told, and in which form it is written.
 fn form_command<'a>(
     alloc: Global,
     sizes: &'a [PossibleValue<'a>],
@@ -217,7 +193,9 @@ fn form_command<'a>(
 ) -> Result<Command<'a>, OutOfMemory>
     ensures { IfOk result (λ c. app_of c ≡ form_command sizes.entry forms.entry) }
 {
-    kinds_command(alloc, sizes)?.arg(format_option(alloc, forms))
+    kinds_command(alloc, sizes)?
+        .arg(why_option(alloc))?
+        .arg(format_option(alloc, forms))
 }
 
 // The command with these, and with those that say how it is shown.
@@ -244,15 +222,8 @@ fn command<'a>(
 {
     style_command(alloc, sizes, forms, colorings)?
         .arg(error_option(alloc))?
+        .arg(workers_option(alloc))?
         .arg(files_words(alloc))
-}
-
-// The limits that were found.
-fn limits_by(matches: &ArgMatches<'_>) -> Limits
-    requires { HoldsKind known_sizes (rows_of (found_of matches.now)) (codes "limits") }
-    ensures { option_and_then limits_named (first_of (codes "limits") (rows_of (found_of matches.now))) ≡ Some result }
-{
-    limits_of(kind_word(matches, "limits")).unwrap()
 }
 
 // The form that was found.
@@ -281,16 +252,6 @@ fn kinds_found(matches: &ArgMatches<'_>) -> Option<Kinds>
     }
 }
 
-// Whether an option stands there that has no value.
-fn has_flag(matches: &ArgMatches<'_>, name: &str) -> bool
-    ensures { result ≡ has_flag name.now (rows_of (found_of matches.now)) }
-{
-    match matches.get_str(name) {
-        Some(word) => word == "true",
-        None => false,
-    }
-}
-
 // Copies of words.
 fn copies(alloc: Global, words: &[&str]) -> Result<Vec<String>, OutOfMemory>
     ensures { IfOk result (λ copies. map string_bytes copies.items ≡ map (λ w. w.now) words.now) }
@@ -312,16 +273,6 @@ fn files_found(alloc: Global, matches: &ArgMatches<'_>) -> Result<Vec<String>, O
     }
 }
 
-// A copy of the name of the procedure that was found.
-fn procedure_found(alloc: Global, matches: &ArgMatches<'_>) -> Result<Option<String>, OutOfMemory>
-    ensures { IfOk result (λ name. first_of (codes "procedure") (rows_of (found_of matches.now)) ≡ option_map string_bytes name) }
-{
-    match matches.get_str("procedure") {
-        Some(name) => Ok(Some(String::from_str(alloc, name)?)),
-        None => Ok(None),
-    }
-}
-
 // The options that the matches name. None where the list of kinds names no kinds.
 fn options_of(alloc: Global, matches: &ArgMatches<'_>) -> Result<Option<Options>, OutOfMemory>
     requires { HoldsOptions (rows_of (found_of matches.now)) }
@@ -329,23 +280,27 @@ fn options_of(alloc: Global, matches: &ArgMatches<'_>) -> Result<Option<Options>
     ensures known { IfOk result (λ options. is_some options ≡ knows_kinds (rows_of (found_of matches.now))) }
 {
     let limits = limits_by(matches);
+    let why = has_flag(matches, "why");
     let format = form_by(matches);
     let source = has_flag(matches, "source");
     let color = color_by(matches);
     let error = has_flag(matches, "error");
+    let workers = number_of(matches, "workers");
     let Some(kinds) = kinds_found(matches) else {
         return Ok(None);
     };
-    let procedure = procedure_found(alloc, matches)?;
+    let procedure = text_found(alloc, matches, "procedure")?;
     let files = files_found(alloc, matches)?;
     Ok(Some(Options {
         limits,
         kinds,
         procedure,
+        why,
         format,
         source,
         color,
         error,
+        workers,
         files,
     }))
 }
@@ -368,11 +323,11 @@ fn named_options(
 
 impl Options {
     /// The options that the program's words name, of which the first is the program's own name:
-    /// `taclint [--limits SIZE] [--kinds LIST] [--procedure NAME] [--format FORM] [--source] [--color WHEN] [--error] [FILE ..]`. Without an option
-    /// stands its default: `standard`, the usual kinds, all procedures, `text`, `auto`.
+    /// `taclint [--limits SIZE] [--kinds LIST] [--procedure NAME] [--why] [--format FORM] [--source] [--color WHEN] [--error] [--workers N] [FILE ..]`.
+    /// Without an option stands its default: `standard`, the usual kinds, all procedures, `text`, `auto`, 1.
     ///
-    /// Refuses words that the command does not take, a word that is no limits, no form or none of colours and a list that names no kinds
-    /// among them, and a call for help; or memory was refused.
+    /// Refuses words that the command does not take, a word that is no limits, no form or none of colours, a number outside its range and a
+    /// list that names no kinds among them, and a call for help; or memory was refused.
     pub fn from_words<'a>(alloc: Global, words: &'a [&'a str]) -> Result<Options, Error>
         ensures { AnswersWords (map (λ w. w.now) words.entry.now) result }
     {

@@ -2,12 +2,14 @@
 
 use flow_graph::GraphFault;
 use flow_runs::Fault;
-use lint_commands::{Form, Request, Told, Wish, failed_line, missing_line, run};
+use flow_team::OpenGate;
+use lint_commands::{Crew, Form, Request, Told, Wish, failed_line, missing_line, run};
 use lint_styles::Style;
 use lint_texts::Kinds;
 use std::io::{ErrorKind, Read};
 use std::process::Abort;
 use std::test::Fail;
+use std::thread::Threads;
 use tac_program::Limits;
 use test_support::failing_streams::{Page, Pieces, blank_page};
 use text_pieces::{FromRead, ToWrite};
@@ -61,12 +63,13 @@ fn request_of<'a>(style: Style) -> Request<'a> {
     Request {
         kinds: Kinds::usual(),
         procedure: None,
+        why: false,
         form: Form::Text,
         style,
     }
 }
 
-fn run_to_page<R: AllocGlobal, D: Read + Drop>(
+fn run_to_page<R: AllocGlobal + Threads + Sync, D: Read + Drop>(
     rt: &R,
     request: Request<'_>,
     reader: D,
@@ -79,11 +82,16 @@ fn run_to_page<R: AllocGlobal, D: Read + Drop>(
         request,
         name: b"a.tac",
     };
-    run(rt.alloc(), wish, &mut source, &mut sink)
+    let crew = Crew {
+        threads: rt,
+        gate: &OpenGate,
+        workers: 2,
+    };
+    run(&crew, rt.alloc(), wish, &mut source, &mut sink)
 }
 
 // The reader's text is told so, where a write takes so many bytes at most.
-fn check_by<R: Abort + AllocGlobal, D: Read + Drop>(
+fn check_by<R: Abort + AllocGlobal + Threads + Sync, D: Read + Drop>(
     rt: &R,
     reader: D,
     piece: usize,

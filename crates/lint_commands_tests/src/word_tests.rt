@@ -68,6 +68,9 @@ fn words_that_are_taken(rt: HostRuntime) -> Result<(), Fail> {
     assert!(rt; options.kinds == Kinds::usual() && options.files.is_empty());
     assert!(rt; !options.source && options.color == Coloring::Auto);
     assert!(rt; options.procedure.is_none() && options.format == Form::Text);
+    assert!(rt; !options.why && options.workers == 1);
+    let options = named_by(rt.alloc(), &["taclint", "--why", "--workers", "64"])?;
+    assert!(rt; options.why && options.workers == 64);
     let options = named_by(rt.alloc(), &["taclint", "--format", "json"])?;
     assert!(rt; options.format == Form::Json);
     let options = named_by(rt.alloc(), &["taclint", "--format=text"])?;
@@ -146,7 +149,10 @@ const REFUSED: &[&[&str]] = &[
     &["taclint", "--format", "json", "--format", "text"],
     &["taclint", "--procedure"],
     &["taclint", "--procedure", "p", "--procedure", "q"],
-    &["taclint", "--workers", "2"],
+    &["taclint", "--workers", "0"],
+    &["taclint", "--workers", "65"],
+    &["taclint", "--workers"],
+    &["taclint", "--why=true"],
     &["taclint", "-x"],
     &["taclint", "--help"],
 ];

@@ -1,6 +1,6 @@
 -- What a linter tells of a program, for tools: an object of JSON a line, ASCII. The first names the file, the last says how many remarks there
--- are, and between them stands each remark that is told, and how many dead assignments are not.
-use Rattle.std.specs.Prelude.{◌≡◌, ℕ, Bool, List, [], ◌++◌, flat_map, Option, Some, None, codes, decimal, if◌then◌else◌}
+-- are, and between them stands each remark that is told, its notes behind it, and how many dead assignments are not told.
+use Rattle.std.specs.Prelude.{◌≡◌, ℕ, Bool, List, [], ◌++◌, flat_map, Option, Some, None, codes, decimal, nat_eq, if◌then◌else◌}
 use Rattle.flow_graph.specs.Points.{procedure_at}
 use Rattle.flow_graph.specs.declared.analysis.Analysis.TheVariants.{Avail, Busy}
 use Rattle.flow_lints.specs.Lints.{IsLinted}
@@ -12,7 +12,9 @@ use Rattle.flow_reports.specs.declared.remark.Remark.{Remark}
 use Rattle.flow_reports.specs.declared.remark.Remark.TheVariants.{NeverReached, Unset, Computed, VeryBusy, Dead}
 use Rattle.flow_texts.specs.Tables.{bit_text, line_at, variable_text}
 use Rattle.lint_styles.specs.Styles.{shown}
-use Rattle.lint_texts.specs.LintTexts.{FileText, TellReached, column_at, has_untold, is_told, kind_text, last_unreached, lint_words, told_count}
+use Rattle.flow_why.specs.declared.hop.Hop.{Hop}
+use Rattle.lint_texts.specs.LintTexts.{AreWays, FileText, Known, TellReached, Turns, behind_first, column_at, has_untold, is_remark_told, kind_text}
+use Rattle.lint_texts.specs.LintTexts.{known_of, last_unreached, later_words, lint_words, told_count, turn_point, turn_words, unset_of}
 use Rattle.lint_texts.specs.Starts.{stands_at, told_at}
 use Rattle.lint_texts.specs.declared.starts.Start.{Start}
 use Rattle.lint_texts.specs.declared.telling.Telling.{Telling}
@@ -65,10 +67,42 @@ abbrev pub remark_line : (name text : List ℕ) → Program → (ℕ → Bool) �
 remark_line name text program reached placed =
     remark_line_of name text program reached placed (lint_words program reached placed.point placed.lint)
 
--- that line, where the lint is told
-abbrev pub told_line : (name text : List ℕ) → Telling → Program → (ℕ → Bool) → PlacedLint → List ℕ
-told_line name text telling program reached placed =
-    if is_told telling program placed then remark_line name text program reached placed else []
+-- the line of a note at a point that says this
+abbrev pub note_line_of : (type name text : List ℕ) → Program → (point : ℕ) → (words : List ℕ) → List ℕ
+note_line_of type name text program point words =
+    line_begin type name ++ place_fields text (stands_at text program point) ++ codes ",\"words\":" ++ quoted words
+    ++ procedure_field program point ++ codes "}\n"
+
+-- a turn of a way, and how many more it has, where some are left out
+abbrev pub turn_line : (name text : List ℕ) → Program → Hop → List ℕ
+turn_line name text program turn = note_line_of (codes "turn") name text program (turn_point turn) (turn_words program turn)
+
+abbrev pub more_turns_line : (name : List ℕ) → ℕ → List ℕ
+more_turns_line name count =
+    if nat_eq count 0 then [] else line_begin (codes "more_turns") name ++ codes ",\"count\":" ++ decimal count ++ codes "}\n"
+
+-- the turns of a way, where ways are asked for
+abbrev pub way_lines : (name text : List ℕ) → Telling → Program → Turns → List ℕ
+way_lines name text telling program way =
+    if telling.why then flat_map (turn_line name text program) way.turns ++ more_turns_line name way.left_out else []
+
+-- a later point at which a variable may be used before it is set
+abbrev pub later_line : (name text : List ℕ) → Program → (variable : ℕ) → (point : ℕ) → List ℕ
+later_line name text program variable point = note_line_of (codes "later") name text program point (later_words program variable)
+
+-- the lines of the notes of a lint
+abbrev pub use_notes : (name text : List ℕ) → Telling → Program → Known → ℕ → List ℕ
+use_notes name text telling program known variable =
+    way_lines name text telling program (known.ways variable) ++ flat_map (later_line name text program variable) (behind_first (known.uses variable))
+
+abbrev pub lint_notes : (name text : List ℕ) → Telling → Program → Known → Lint → List ℕ
+lint_notes name text telling program known lint = elim (unset_of lint) [ Some variable ↦ use_notes name text telling program known variable | None ↦ [] ]
+
+-- the lines of a lint that is told as a remark
+abbrev pub told_lines : (name text : List ℕ) → Telling → Program → Known → PlacedLint → List ℕ
+told_lines name text telling program known placed =
+    if is_remark_told telling program known.uses placed
+    then remark_line name text program known.reached placed ++ lint_notes name text telling program known placed.lint else []
 
 -- from which line on the program may never end
 abbrev pub from_line : List ℕ → Program → Option ℕ → List ℕ
@@ -89,19 +123,21 @@ abbrev pub end_line : (name : List ℕ) → ℕ → List ℕ
 end_line name count = line_begin (codes "end") name ++ codes ",\"remarks\":" ++ decimal count ++ codes "}\n"
 
 -- all lines of a file of this name, as it is shown
-abbrev pub lines_of : (name text : List ℕ) → Telling → Program → (ℕ → Bool) → Linted → List ℕ
-lines_of name text telling program reached linted =
-    file_line name ++ flat_map (told_line name text telling program reached) linted.lints.items
+abbrev pub lines_of : (name text : List ℕ) → Telling → Program → (ℕ → Bool) → (ℕ → Turns) → Linted → List ℕ
+lines_of name text telling program reached ways linted =
+    file_line name ++ flat_map (told_lines name text telling program (known_of telling program linted reached ways)) linted.lints.items
     ++ wanted_untold name text telling program linted ++ end_line name (told_count telling program linted)
 
-abbrev pub lint_json_of : FileText → Telling → Program → (ℕ → Bool) → Linted → List ℕ
-lint_json_of file telling program reached linted = lines_of (shown file.name) file.text telling program reached linted
+abbrev pub lint_json_of : FileText → Telling → Program → (ℕ → Bool) → (ℕ → Turns) → Linted → List ℕ
+lint_json_of file telling program reached ways linted = lines_of (shown file.name) file.text telling program reached ways linted
 
 -- The text tells these lints of the program.
 pub record IsLintJson (file : FileText) (telling : Telling) (program : Program) (linted : Linted) (text : List ℕ) : Type 0 where
   pub reached : ℕ → Bool
   pub are_reached : TellReached program reached
-  pub is_text : text ≡ lint_json_of file telling program reached linted
+  pub ways : ℕ → Turns
+  pub are_ways : AreWays telling program linted ways
+  pub is_text : text ≡ lint_json_of file telling program reached ways linted
 
 -- The text tells what is told of the program: its lints are over the meets over all valid paths.
 pub record TellsLintJson (file : FileText) (telling : Telling) (program : Program) (text : List ℕ) : Type 0 where

@@ -1,10 +1,9 @@
 -- What a linter tells of a text that is no program, for tools: an object of JSON a line, ASCII, as of a program; in place of remarks stand errors.
-use Rattle.std.specs.Prelude.{ℕ, Bool, true, false, List, [], ◌++◌, flat_map, length, codes, decimal, nat_le, if◌then◌else◌}
+use Rattle.std.specs.Prelude.{ℕ, Bool, true, false, List, [], ◌++◌, flat_map, length, min, take, codes, decimal, nat_lt, if◌then◌else◌}
 use Rattle.lint_json.specs.LintJson.{file_line, line_begin}
 use Rattle.lint_styles.specs.Styles.{shown}
-use Rattle.refusal_texts.specs.RefusalTexts.{hint_words, is_some_hint, kind_words}
+use Rattle.refusal_texts.specs.RefusalTexts.{hint_words, is_some_hint, kind_words, most_told}
 use Rattle.refusal_texts.specs.declared.told.ToldRefusal.{ToldRefusal}
-use Rattle.tac_faults.specs.Listed.{most_told}
 use Rattle.tac_faults.specs.declared.slips.Hint.{Hint}
 use Rattle.tac_lines.specs.LineFaults.{number_of_kind}
 use Rattle.tac_lines.specs.declared.refusal.Refusal.{Refusal}
@@ -32,14 +31,15 @@ abbrev pub boolean : Bool → List ℕ
 boolean true = codes "true"
 boolean false = codes "false"
 
--- The last line of a file: how many errors are told, and whether these are the first ones, of which no more are told.
+-- The last line of a file in which so many errors were found: how many are told, and whether these are the first ones of more.
 abbrev pub errors_line : (name : List ℕ) → ℕ → List ℕ
 errors_line name count =
-    line_begin (codes "end") name ++ codes ",\"errors\":" ++ decimal count ++ codes ",\"first\":" ++ boolean (nat_le most_told count) ++ codes "}\n"
+    line_begin (codes "end") name ++ codes ",\"errors\":" ++ decimal (min count most_told) ++ codes ",\"first\":" ++ boolean (nat_lt most_told count)
+    ++ codes "}\n"
 
 -- all lines of a file of this name, as it is shown
 abbrev pub lines_of : (name text : List ℕ) → List ToldRefusal → List ℕ
-lines_of name text told = file_line name ++ flat_map (error_line name text) told ++ errors_line name (length told)
+lines_of name text found = file_line name ++ flat_map (error_line name text) (take most_told found) ++ errors_line name (length found)
 
 abbrev pub refusal_json_of : (file text : List ℕ) → List ToldRefusal → List ℕ
-refusal_json_of file text told = lines_of (shown file) text told
+refusal_json_of file text found = lines_of (shown file) text found

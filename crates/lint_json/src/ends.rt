@@ -1,6 +1,6 @@
 // The first and the last lines of a file.
 
-ghost use Rattle.std.specs.Prelude.{◌≡◌, codes, nat_le};
+ghost use Rattle.std.specs.Prelude.{◌≡◌, codes};
 ghost use Rattle.lint_json.specs.LintJson.{end_line, file_line, from_line, line_begin, untold_line, wanted_untold};
 ghost use Rattle.lint_json.specs.RefusalJson.{boolean as boolean_text, errors_line};
 ghost use Rattle.lint_texts.specs.code.Lines.{AreLintLines};
@@ -8,8 +8,8 @@ ghost use Rattle.text_pieces.specs.Pieces.{CanWrite, Writes};
 
 use lint_styles::write_size;
 use lint_texts::LintLines;
+use refusal_texts::{MOST_TOLD, has_more};
 use std::marker::Model;
-use tac_faults::MOST_TOLD;
 use text_pieces::{Pieces, Sink, Text, write_quoted};
 
 /// Writes the beginning of a line of this type, in a file of this name.
@@ -132,14 +132,7 @@ fn write_boolean<K: Sink>(out: &mut Pieces<'_, K>, is_so: bool)
     }
 }
 
-// Whether no more errors are told than so many.
-fn are_most(count: usize) -> bool
-    ensures { result ≡ nat_le 20 count }
-{
-    count >= MOST_TOLD
-}
-
-/// The last line of a file that is refused, with how many errors are told of it.
+/// The last line of a file that is refused, in which so many errors were found.
 #[derive(Clone, Copy)]
 pub(crate) struct ErrorsText<'a> {
     pub name: &'a [u8],
@@ -154,9 +147,9 @@ impl<'a> Text for ErrorsText<'a> {
     fn write<K: Sink>(&self, out: &mut Pieces<'_, K>) {
         write_begin(out, b"end", self.name);
         out.write(b",\"errors\":");
-        write_size(out, self.count);
+        write_size(out, self.count.min(MOST_TOLD));
         out.write(b",\"first\":");
-        write_boolean(out, are_most(self.count));
+        write_boolean(out, has_more(self.count));
         out.write(b"}\n");
     }
 }

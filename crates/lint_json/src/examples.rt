@@ -27,6 +27,8 @@ pub fn end_examples()
     ensures file { file_line (shown (codes "a\"b\n")) ≡ codes "{\"type\":\"file\",\"file\":\"a\\\"b\\\\x0a\",\"version\":1}\n" }
     ensures remarks { end_line (codes "a.tac") 12 ≡ codes "{\"type\":\"end\",\"file\":\"a.tac\",\"remarks\":12}\n" }
     ensures errors { errors_line (codes "a.tac") 2 ≡ codes "{\"type\":\"end\",\"file\":\"a.tac\",\"errors\":2,\"first\":false}\n" }
+    ensures all { errors_line (codes "a.tac") 20 ≡ codes "{\"type\":\"end\",\"file\":\"a.tac\",\"errors\":20,\"first\":false}\n" }
+    ensures first { errors_line (codes "a.tac") 21 ≡ codes "{\"type\":\"end\",\"file\":\"a.tac\",\"errors\":20,\"first\":true}\n" }
     ensures nowhere { from_line early_text may_loop None ≡ codes "null" }
     ensures somewhere { from_line early_text may_loop (Some 3) ≡ codes "5" }
 {}

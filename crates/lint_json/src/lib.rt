@@ -4,6 +4,7 @@
 mod ends;
 mod errors;
 pub mod examples;
+mod notes;
 mod remarks;
 mod texts;
 

@@ -2,12 +2,13 @@
 
 ghost use Rattle.std.specs.Prelude.{◌≡◌, ◌<◌, ◌++◌, flat_map, OnOk};
 ghost use Rattle.flow_graph.specs.Points.{point_count};
-ghost use Rattle.lint_json.specs.LintJson.{lint_name, place_fields, procedure_field, remark_line, remark_name, told_line, words_fields};
-ghost use Rattle.lint_texts.specs.code.Lines.{AreLintLines, reached_in};
+ghost use Rattle.lint_json.specs.LintJson.{lint_name, lint_notes, place_fields, procedure_field, remark_line, remark_name, told_lines, words_fields};
+ghost use Rattle.lint_texts.specs.code.Lines.{AreLintLines, known_in, reached_in};
 ghost use Rattle.text_pieces.specs.Pieces.{CanWrite, Writes};
 
 use crate::OutOfMemory;
 use crate::ends::write_begin;
+use crate::notes::push_notes;
 use flow_lints::{Lint, PlacedLint};
 use flow_reports::Remark;
 use flow_texts::line;
@@ -18,7 +19,7 @@ use std::marker::Model;
 use text_pieces::{Pieces, Sink, Text, whole_text, write_quoted};
 
 // Writes where something is told.
-fn write_place<K: Sink>(out: &mut Pieces<'_, K>, lines: &LintLines<'_>, start: Start)
+pub(crate) fn write_place<K: Sink>(out: &mut Pieces<'_, K>, lines: &LintLines<'_>, start: Start)
     requires { CanWrite K.Sink out.old }
     ensures { Writes K.Sink out.old out.new (place_fields lines.now.file.text.now start) }
 {
@@ -78,7 +79,7 @@ fn write_name<K: Sink>(out: &mut Pieces<'_, K>, lines: &LintLines<'_>, placed: P
 }
 
 // Writes in which procedure a point lies.
-fn write_procedure<K: Sink>(out: &mut Pieces<'_, K>, lines: &LintLines<'_>, point: u32)
+pub(crate) fn write_procedure<K: Sink>(out: &mut Pieces<'_, K>, lines: &LintLines<'_>, point: u32)
     requires ready { CanWrite K.Sink out.old }
     requires point { point < point_count lines.now.graph.now }
     ensures { Writes K.Sink out.old out.new (procedure_field lines.now.graph.now point) }
@@ -162,7 +163,25 @@ fn push_remark(
     Ok(())
 }
 
-// Puts that line there where the lint is told.
+// Puts the line of a lint and those of its notes behind a text.
+fn push_noted(
+    alloc: Global,
+    text: &mut Vec<u8>,
+    name: &[u8],
+    lines: &LintLines<'_>,
+    placed: PlacedLint,
+) -> Result<(), OutOfMemory>
+    requires lines { AreLintLines lines.now }
+    requires point { placed.point < point_count lines.now.graph.now }
+    ensures { OnOk result (text.new.items ≡ text.old.items
+        ++ (remark_line name.now lines.now.file.text.now lines.now.graph.now (reached_in lines.now) placed
+        ++ lint_notes name.now lines.now.file.text.now lines.now.telling lines.now.graph.now (known_in lines.now) placed.lint)) }
+{
+    push_remark(alloc, text, name, lines, placed)?;
+    push_notes(alloc, text, name, lines, placed.lint)
+}
+
+// Puts the lines of a lint there where it is told as a remark.
 fn push_told(
     alloc: Global,
     text: &mut Vec<u8>,
@@ -173,12 +192,13 @@ fn push_told(
     requires lines { AreLintLines lines.now }
     requires point { placed.point < point_count lines.now.graph.now }
     ensures { OnOk result (text.new.items ≡ text.old.items
-        ++ told_line name.now lines.now.file.text.now lines.now.telling lines.now.graph.now (reached_in lines.now) placed) }
+        ++ told_lines name.now lines.now.file.text.now lines.now.telling lines.now.graph.now (known_in lines.now) placed) }
 {
-    if lines.telling.tells(lines.graph, placed) {
-        push_remark(alloc, text, name, lines, placed)?;
+    if lines.tells(placed) {
+        push_noted(alloc, text, name, lines, placed)
+    } else {
+        Ok(())
     }
-    Ok(())
 }
 
 /// Puts the lines of all lints that are told behind a text.
@@ -190,7 +210,7 @@ pub(crate) fn push_lints(
 ) -> Result<(), OutOfMemory>
     requires { AreLintLines lines.now }
     ensures { OnOk result (text.new.items ≡ text.old.items
-        ++ flat_map (told_line name.now lines.now.file.text.now lines.now.telling lines.now.graph.now (reached_in lines.now))
+        ++ flat_map (told_lines name.now lines.now.file.text.now lines.now.telling lines.now.graph.now (known_in lines.now))
         lines.now.linted.now.lints.items) }
 {
     let lints = lines.linted.lints.as_slice();

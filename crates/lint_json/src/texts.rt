@@ -2,11 +2,12 @@
 
 ghost use Rattle.std.specs.Prelude.{◌≡◌, IfOk};
 ghost use Rattle.flow_lints.specs.Lints.{IsLinted};
-ghost use Rattle.flow_reports.specs.code.Reported.{TellReport};
+ghost use Rattle.report_answers.specs.code.Reported.{TellReport};
 ghost use Rattle.lint_json.specs.LintJson.{IsLintJson, TellsLintJson, lines_of, lint_json_of};
 ghost use Rattle.lint_json.specs.RefusalJson.{lines_of as error_lines_of, refusal_json_of};
 ghost use Rattle.lint_texts.specs.LintTexts.{file_text};
 ghost use Rattle.lint_texts.specs.code.Lines.{AreLintLines, reached_in};
+ghost use Rattle.lint_texts.specs.code.Uses.{ways_in};
 
 use crate::OutOfMemory;
 use crate::ends::{EndText, ErrorsText, FileText};
@@ -14,10 +15,10 @@ use crate::errors::push_errors;
 use crate::remarks::push_lints;
 use flow_graph::Graph;
 use flow_lints::{Linted, linted};
-use flow_reports::ReportAnswers;
 use lint_styles::shown_bytes;
 use lint_texts::{File, LintLines, Telling};
-use refusal_texts::ToldRefusal;
+use refusal_texts::{ToldRefusal, first_told};
+use report_answers::ReportAnswers;
 use std::alloc::Global;
 use text_pieces::whole_text;
 
@@ -25,7 +26,7 @@ use text_pieces::whole_text;
 fn program_lines(alloc: Global, name: &[u8], lines: &LintLines<'_>) -> Result<Vec<u8>, OutOfMemory>
     requires { AreLintLines lines.now }
     ensures { IfOk result (λ text. text.items ≡ lines_of name.now lines.now.file.text.now lines.now.telling lines.now.graph.now
-        (reached_in lines.now) lines.now.linted.now) }
+        (reached_in lines.now) (ways_in lines.now.ways.items) lines.now.linted.now) }
 {
     let mut text = whole_text(alloc, &FileText { name })?;
     push_lints(alloc, &mut text, name, lines)?;
@@ -38,7 +39,7 @@ fn program_lines(alloc: Global, name: &[u8], lines: &LintLines<'_>) -> Result<Ve
 fn lines_json(alloc: Global, lines: &LintLines<'_>) -> Result<Vec<u8>, OutOfMemory>
     requires { AreLintLines lines.now }
     ensures { IfOk result (λ text. text.items ≡ lint_json_of (file_text lines.now.file) lines.now.telling lines.now.graph.now
-        (reached_in lines.now) lines.now.linted.now) }
+        (reached_in lines.now) (ways_in lines.now.ways.items) lines.now.linted.now) }
 {
     let name = shown_bytes(alloc, lines.file.name)?;
     program_lines(alloc, name.as_slice(), lines)
@@ -85,33 +86,34 @@ fn error_lines(
     alloc: Global,
     name: &[u8],
     text: &[u8],
-    told: &[ToldRefusal],
+    found: &[ToldRefusal],
 ) -> Result<Vec<u8>, OutOfMemory>
-    ensures { IfOk result (λ out. out.items ≡ error_lines_of name.now text.now told.now) }
+    ensures { IfOk result (λ out. out.items ≡ error_lines_of name.now text.now found.now) }
 {
     let mut out = whole_text(alloc, &FileText { name })?;
-    push_errors(alloc, &mut out, name, text, told)?;
+    push_errors(alloc, &mut out, name, text, first_told(found))?;
     let end = whole_text(
         alloc,
         &ErrorsText {
             name,
-            count: told.len(),
+            count: found.len(),
         },
     )?;
     out.extend_from_slice(end.as_slice())?;
     Ok(out)
 }
 
-/// What is told of a file whose text is refused, as lines of JSON: one with its name, one for each error, and one with how many there are.
+/// What is told of a file in whose text this was found to be wrong, as lines of JSON: one with its name, one for each error that is told, and one
+/// with how many these are.
 /// Fails only where memory runs out.
 pub fn refusal_json(
     alloc: Global,
     file: &[u8],
     text: &[u8],
-    told: &[ToldRefusal],
+    found: &[ToldRefusal],
 ) -> Result<Vec<u8>, OutOfMemory>
-    ensures { IfOk result (λ out. out.items ≡ refusal_json_of file.now text.now told.now) }
+    ensures { IfOk result (λ out. out.items ≡ refusal_json_of file.now text.now found.now) }
 {
     let name = shown_bytes(alloc, file)?;
-    error_lines(alloc, name.as_slice(), text, told)
+    error_lines(alloc, name.as_slice(), text, found)
 }

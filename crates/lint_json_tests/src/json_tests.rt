@@ -117,6 +117,7 @@ fn json_of_program(alloc: Global, text: &str, program: &Program) -> Result<Vec<u
     let telling = Telling {
         kinds: ALL,
         procedure: None,
+        why: false,
         style: STYLE,
     };
     Ok(lint_json_here(alloc, file, telling, &graph)?)

@@ -3,3 +3,6 @@ mod Placed
 mod Runs
 mod Scanned
 mod Texts
+pub mod Unset
+mod Linked
+mod Turned

@@ -10,7 +10,7 @@ use Rattle.std.proofs.lemmas.List.Sums.{count_by_more_no, count_by_more_yes}
 use Rattle.flow_lints.specs.Lints.{IsLinted}
 use Rattle.flow_lints.specs.declared.lint.Linted.{Linted}
 use Rattle.flow_texts.specs.Tables.{line_at}
-use Rattle.lint_texts.specs.LintTexts.{FileText, IsLintText, TellsLints, remark_count, unreached_words, untold_words}
+use Rattle.lint_texts.specs.LintTexts.{FileText, IsLintText, TellsLints, left_out_words, remark_count, unreached_words, untold_words}
 use Rattle.lint_texts.specs.declared.telling.Telling.{Telling}
 use Rattle.tac_program.specs.Programs.{Program}
 
@@ -35,6 +35,16 @@ pub more_remarks : (count : ℕ) → (count ≡ 0 → ⊥) → (count ≡ 1 → 
 more_remarks count some more =
     unequal count 1 (codes "1 remark") (decimal count ++ codes " remarks") more
     ∙ unequal count 0 (codes "no remarks") (if nat_eq count 1 then codes "1 remark" else decimal count ++ codes " remarks") some
+
+pub one_left_out : (count : ℕ) → count ≡ 1 → codes "1 more turn of the way is left out" ≡ left_out_words count
+one_left_out count is = equal count 1 (codes "1 more turn of the way is left out") (decimal count ++ codes " more turns of the way are left out") is
+
+pub more_left_out : (count : ℕ) → (count ≡ 1 → ⊥) → decimal count ++ codes " more turns of the way are left out" ≡ left_out_words count
+more_left_out count differ =
+    unequal count 1 (codes "1 more turn of the way is left out") (decimal count ++ codes " more turns of the way are left out") differ
+
+pub some_left_out : (count : ℕ) (words : List ℕ) → 0 < count → words ≡ (if nat_eq count 0 then [] else words)
+some_left_out count words some = unequal count 0 [] words (λ e. let none : ⊥ = omega (arith, some, e) in none)
 
 abbrev stretch_words : Program → ℕ → List ℕ
 stretch_words program last = codes "no statement from here to line " ++ decimal (line_at program last) ++ codes " is ever reached"
@@ -83,6 +93,10 @@ module _ {X : Type 0} (xs : List X) (i : ℕ) where
   -- all are taken
   pub all_taken : {A : Type 0} (f : List X → A) (ys : List X) → i ≡ length xs → xs ≡ ys → f (take i xs) ≡ f ys
   all_taken f ys all same = ap (λ n. f (take n xs)) all ∙ ap f (take-length xs) ∙ ap f same
+
+-- the text of one element behind others
+pub text_behind : {X : Type 0} (f : X → List ℕ) (xs : List X) (x : X) → flat_map f xs ++ f x ≡ flat_map f (xs ++ x ∷ [])
+text_behind f xs x = ap (λ t. flat_map f xs ++ t) (sym (append-nil (f x))) ∙ sym (flat_map-append f xs (x ∷ []))
 
 pub tells : (file : FileText) (telling : Telling) (program : Program) (linted : Linted) (text whole : List ℕ) → IsLinted program linted
     → IsLintText file telling program linted text → whole ≡ text → TellsLints file telling program whole

@@ -5,11 +5,12 @@ ghost use Rattle.flow_graph.specs.Points.{point_count};
 ghost use Rattle.flow_graph.specs.declared.analysis.Analysis.TheVariants.{Avail};
 ghost use Rattle.flow_texts.specs.Tables.{bit_text, variable_text};
 ghost use Rattle.lint_texts.specs.LintTexts.{column_at, count_line, endless_words, file_text, has_untold as has_untold_of};
-ghost use Rattle.lint_texts.specs.LintTexts.{is_unreached as is_unreached_at, last_unreached, lint_line, lint_text_of, lint_words, place_words};
+ghost use Rattle.lint_texts.specs.LintTexts.{is_remark_told, is_unreached as is_unreached_at, last_unreached, lint_line, lint_text_of, lint_words, place_words};
 ghost use Rattle.lint_texts.specs.LintTexts.{remark_count, remark_words, source_line, told_count as count_told, told_lines, unreached_words};
 ghost use Rattle.lint_texts.specs.LintTexts.{untold_line, untold_words, wanted_note};
 ghost use Rattle.lint_texts.specs.Starts.{stands_at, statement_start as start_of_statement, told_at};
-ghost use Rattle.lint_texts.specs.code.Lines.{AreLintLines, reached_in};
+ghost use Rattle.lint_texts.specs.code.Lines.{AreLintLines, known_in, reached_in};
+ghost use Rattle.lint_texts.specs.code.Uses.{ways_in};
 ghost use Rattle.tac_program.specs.Names.{name_at};
 ghost use Rattle.text_pieces.specs.Pieces.{CanWrite, Writes};
 
@@ -17,11 +18,14 @@ use crate::file::File;
 use crate::kinds::kind_name;
 use crate::starts::{Start, Starts, start_among};
 use crate::telling::Telling;
+use crate::uses::Uses;
+use crate::ways::Way;
 use flow_graph::{Analysis, Graph};
 use flow_lints::{Lint, Linted, PlacedLint};
-use flow_reports::{Remark, ReportAnswers};
+use flow_reports::Remark;
 use flow_texts::{line, write_number};
 use lint_styles::{Hue, column_of, write_painted, write_shown, write_size, write_source_at};
+use report_answers::ReportAnswers;
 use tac_program::Stmt;
 use text_pieces::{Pieces, Sink, TextBlock};
 
@@ -80,6 +84,10 @@ pub struct LintLines<'a> {
     pub expressions: TextBlock,
     /// Where its procedures begin and end in the text.
     pub starts: Starts,
+    /// Where variables may be used before they are set, as far as that is told.
+    pub uses: Uses,
+    /// The ways to the first of these of each variable, by its number, where ways are asked for.
+    pub ways: Vec<Way>,
 }
 
 impl LintLines<'_> {
@@ -245,8 +253,8 @@ impl LintLines<'_> {
         column_of(&text[..text.len().min(place as usize)])
     }
 
-    // Writes where a lint is told.
-    fn write_place<K: Sink>(&self, out: &mut Pieces<'_, K>, start: Start)
+    // Writes where something is told.
+    pub(crate) fn write_place<K: Sink>(&self, out: &mut Pieces<'_, K>, start: Start)
         requires { CanWrite K.Sink out.old }
         ensures { Writes K.Sink out.old out.new (place_words (file_text self.now.file) start) }
     {
@@ -272,8 +280,8 @@ impl LintLines<'_> {
         out.write(b"\n");
     }
 
-    // Writes the line of the source in which a lint is told.
-    fn write_source<K: Sink>(&self, out: &mut Pieces<'_, K>, start: Start)
+    // Writes the line of the source in which something is told.
+    pub(crate) fn write_source<K: Sink>(&self, out: &mut Pieces<'_, K>, start: Start)
         requires { CanWrite K.Sink out.old }
         ensures { Writes K.Sink out.old out.new (source_line (file_text self.now.file) self.now.telling.style start) }
     {
@@ -286,17 +294,27 @@ impl LintLines<'_> {
         );
     }
 
-    // Writes the lines of a lint, where it is told.
+    /// Whether a lint is told as a remark.
+    pub fn tells(&self, placed: PlacedLint) -> bool
+        requires lines { AreLintLines self.now }
+        requires point { placed.point < point_count self.now.graph.now }
+        ensures { result ≡ is_remark_told self.now.telling self.now.graph.now (known_in self.now).uses placed }
+    {
+        self.telling.tells(self.graph, placed) && self.is_first(placed)
+    }
+
+    // Writes the lines of a lint, where it is told as a remark.
     fn write_told<K: Sink>(&self, out: &mut Pieces<'_, K>, placed: PlacedLint)
         requires ready { CanWrite K.Sink out.old }
         requires lines { AreLintLines self.now }
         requires point { placed.point < point_count self.now.graph.now }
         ensures { Writes K.Sink out.old out.new
-            (told_lines (file_text self.now.file) self.now.telling self.now.graph.now (reached_in self.now) placed) }
+            (told_lines (file_text self.now.file) self.now.telling self.now.graph.now (known_in self.now) placed) }
     {
-        if self.telling.tells(self.graph, placed) {
+        if self.tells(placed) {
             self.write_line(out, placed);
             self.write_source(out, self.told_start(placed.point));
+            self.write_notes(out, placed.lint);
         }
     }
 
@@ -305,7 +323,7 @@ impl LintLines<'_> {
         requires ready { CanWrite K.Sink out.old }
         requires lines { AreLintLines self.now }
         ensures { Writes K.Sink out.old out.new
-            (flat_map (told_lines (file_text self.now.file) self.now.telling self.now.graph.now (reached_in self.now))
+            (flat_map (told_lines (file_text self.now.file) self.now.telling self.now.graph.now (known_in self.now))
             self.now.linted.now.lints.items) }
     {
         let lints = self.linted.lints.as_slice();
@@ -361,7 +379,7 @@ impl LintLines<'_> {
         }
     }
 
-    /// How many lints are told.
+    /// How many lints are told as remarks.
     pub fn told_count(&self) -> usize
         requires { AreLintLines self.now }
         ensures { result ≡ count_told self.now.telling self.now.graph.now self.now.linted.now }
@@ -369,7 +387,7 @@ impl LintLines<'_> {
         let lints = self.linted.lints.as_slice();
         let mut count = 0;
         for placed in lints {
-            if self.telling.tells(self.graph, *placed) {
+            if self.tells(*placed) {
                 count += 1;
             }
         }
@@ -394,7 +412,8 @@ impl LintLines<'_> {
         requires ready { CanWrite K.Sink out.old }
         requires lines { AreLintLines self.now }
         ensures { Writes K.Sink out.old out.new
-            (lint_text_of (file_text self.now.file) self.now.telling self.now.graph.now (reached_in self.now) self.now.linted.now) }
+            (lint_text_of (file_text self.now.file) self.now.telling self.now.graph.now (reached_in self.now) (ways_in self.now.ways.items)
+            self.now.linted.now) }
     {
         self.write_lints(out);
         self.write_note(out);

@@ -2,7 +2,7 @@
 
 ghost use Rattle.std.specs.Prelude.{IfOk};
 ghost use Rattle.flow_lints.specs.Lints.{IsLinted};
-ghost use Rattle.flow_reports.specs.code.Reported.{TellReport};
+ghost use Rattle.report_answers.specs.code.Reported.{TellReport};
 ghost use Rattle.lint_texts.specs.LintTexts.{IsLintText, TellsLints, file_text};
 ghost use Rattle.lint_texts.specs.code.Lines.{AreLintLines, AreOf};
 
@@ -11,17 +11,20 @@ use crate::file::File;
 use crate::lines::LintLines;
 use crate::starts::Starts;
 use crate::telling::Telling;
+use crate::uses::Uses;
+use crate::ways::ways_of;
 use flow_graph::{Analysis, Graph};
 use flow_lints::{Linted, linted};
-use flow_reports::ReportAnswers;
 use flow_texts::texts_of_bits;
+use report_answers::ReportAnswers;
 use std::alloc::Global;
 use std::marker::Model;
 use text_pieces::{Pieces, Sink, Text, whole_text};
 
 /// What a linter tells of the program of a file: a line `FILE:LINE:COLUMN: KIND: WORDS` for each lint of a kind that is wanted, in the order of
-/// points, and behind it, where the style says so, the line of the source; where dead assignments are wanted and some are left out, since the program may never end behind them, a line that says so; and a
-/// last line `FILE: N remarks`.
+/// points, and behind it, where the style says so, the line of the source. Of a variable that may be used before it is set the first point is told
+/// so; behind it stand notes with the way there, where that is asked for, and with the later points. Where dead assignments are wanted and some
+/// are left out, since the program may never end behind them, a line says so; and a last line is `FILE: N remarks`.
 #[derive(Drop)]
 pub struct LintText<'a> {
     lines: LintLines<'a>,
@@ -31,11 +34,12 @@ impl<'a> Model for LintText<'a> {
     ghost use Rattle.std.specs.Prelude.{List, ℕ};
     ghost use Rattle.lint_texts.specs.LintTexts.{file_text, lint_text_of};
     ghost use Rattle.lint_texts.specs.code.Lines.{AreLintLines, reached_in};
+    ghost use Rattle.lint_texts.specs.code.Uses.{ways_in};
 
     ghost Value = { List ℕ };
 
     ghost view = { λ text. lint_text_of (file_text text.lines.file) text.lines.telling text.lines.graph.now
-        (reached_in text.lines) text.lines.linted.now };
+        (reached_in text.lines) (ways_in text.lines.ways.items) text.lines.linted.now };
 
     ghost invariant = { λ text. AreLintLines text.lines };
 }
@@ -60,6 +64,8 @@ impl<'a> LintLines<'a> {
     {
         let expressions = texts_of_bits(alloc, graph, Analysis::Avail)?;
         let starts = Starts::of(alloc, file.text)?;
+        let uses = Uses::of(alloc, telling, graph, linted)?;
+        let ways = ways_of(alloc, telling, graph, linted, &uses)?;
         Ok(LintLines {
             file,
             telling,
@@ -68,6 +74,8 @@ impl<'a> LintLines<'a> {
             linted,
             expressions,
             starts,
+            uses,
+            ways,
         })
     }
 }

@@ -18,6 +18,8 @@ pub struct Telling {
     pub kinds: Kinds,
     /// The one procedure of whose points they are told; without it all are.
     pub procedure: Option<u32>,
+    /// Whether the way is told by which a variable is not set.
+    pub why: bool,
     /// How they are shown.
     pub style: Style,
 }

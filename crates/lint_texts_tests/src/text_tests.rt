@@ -196,15 +196,66 @@ fn telling(kinds: Kinds, style: Style) -> Telling {
     Telling {
         kinds,
         procedure: None,
+        why: false,
         style,
     }
 }
+
+// A variable that may be used before it is set at one point, and one that may at two, which lie in two procedures.
+const USES: &[Row] = &[(
+    "proc main\nprint x\nz = y + y\nx = 1\ncall p\n  print y\nend\nproc p\nprint x\nprint z\ny = y\nprint y\nend\n",
+    &[
+        "a.tac:2:1: unset: x may be used before it is set",
+        "a.tac:3:1: unset: y may be used before it is set",
+        "a.tac:11:1: note: y may be used before it is set here too",
+        "a.tac: 2 remarks",
+    ],
+)];
+
+// A call that is passed by way of the one callee that does not set the variable, one that is entered, and a test.
+const WAY: &[Row] = &[
+    (
+        "proc main\nread y\ncall f | g\ncall h\nend\nproc f\nx = 1\nend\nproc g\nend\nproc h\nL:\nif y goto L\nprint x\nend\n",
+        &[
+            "a.tac:14:1: unset: x may be used before it is set",
+            "a.tac:3:1: note: the way leads past this call, by way of g",
+            "a.tac:4:1: note: the way leads into h",
+            "a.tac:13:1: note: the way leads on to line 14",
+            "a.tac: 1 remark",
+        ],
+    ),
+    (
+        "proc main\nprint x\nprint x\nend\n",
+        &[
+            "a.tac:2:1: unset: x may be used before it is set",
+            "a.tac:3:1: note: x may be used before it is set here too",
+            "a.tac: 1 remark",
+        ],
+    ),
+];
 
 fn telling_of(procedure: u32) -> Telling {
     Telling {
         procedure: Some(procedure),
         ..telling(Kinds::usual(), PLAIN)
     }
+}
+
+#[test]
+fn later_uses(rt: HostRuntime) -> Result<(), Fail> {
+    check_rows(&rt, telling(Kinds::usual(), PLAIN), USES)
+}
+
+fn telling_why() -> Telling {
+    Telling {
+        why: true,
+        ..telling(Kinds::usual(), PLAIN)
+    }
+}
+
+#[test]
+fn ways(rt: HostRuntime) -> Result<(), Fail> {
+    check_rows(&rt, telling_why(), WAY)
 }
 
 #[test]

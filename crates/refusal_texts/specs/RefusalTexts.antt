@@ -1,11 +1,11 @@
 -- The text of a file that is refused.
 use Rattle.std.specs.Prelude.{ℕ, Bool, true, false, List, [], ◌++◌, map, flat_map, take, length, Option, Some, None, slice_range, nat_eq, nat_lt}
-use Rattle.std.specs.Prelude.{nat_le, codes, decimal, if◌then◌else◌}
+use Rattle.std.specs.Prelude.{codes, decimal, if◌then◌else◌}
 use Rattle.lint_styles.specs.Styles.{painted, shown, source_of}
 use Rattle.lint_styles.specs.declared.style.Hue.TheVariants.{Error, Note}
 use Rattle.lint_styles.specs.declared.style.Style.{Style}
 use Rattle.tac_hints.specs.Texts.{hint_of}
-use Rattle.tac_faults.specs.Listed.{most_told, refusals_within}
+use Rattle.tac_faults.specs.Listed.{refusals_within}
 use Rattle.tac_faults.specs.declared.slips.Bytes.{Bytes}
 use Rattle.tac_faults.specs.declared.slips.Hint.{Hint}
 use Rattle.tac_faults.specs.declared.slips.Hint.TheVariants as hint
@@ -20,6 +20,10 @@ use Rattle.tac_program.specs.declared.limits.Limits.{Limits}
 use Rattle.refusal_texts.specs.declared.told.ToldRefusal.{ToldRefusal}
 
 -- ---- what is told: each refusal with what is told on its mend
+
+-- How many of them a reader is told. One more is found, so that it is known whether there are more.
+abbrev pub most_told : ℕ
+most_told = 20
 
 abbrev pub told_of : Limits → List ℕ → Refusal → ToldRefusal
 told_of limits text r = record { refusal = r; hint = hint_of limits text r }
@@ -202,15 +206,15 @@ refusal_lines style file text told =
     ++ source_of style text told.refusal.line told.refusal.column
     ++ wanted_note style file text told
 
--- How many errors are told; no more than 20 are.
+-- How many errors are told, of so many that were found.
 abbrev pub error_count : ℕ → List ℕ
 error_count count =
-    if nat_le most_told count then codes "the first 20 errors" else if nat_eq count 1 then codes "1 error" else decimal count ++ codes " errors"
+    if nat_lt most_told count then codes "the first 20 errors" else if nat_eq count 1 then codes "1 error" else decimal count ++ codes " errors"
 
 -- `FILE: N errors`
 abbrev pub count_line : List ℕ → ℕ → List ℕ
 count_line file count = shown file ++ codes ": " ++ error_count count ++ codes "\n"
 
--- The text of a file of this name that is refused so.
+-- The text of a file of this name in which these refusals were found.
 abbrev pub refusal_text_of : Style → List ℕ → List ℕ → List ToldRefusal → List ℕ
-refusal_text_of style file text told = flat_map (refusal_lines style file text) told ++ count_line file (length told)
+refusal_text_of style file text found = flat_map (refusal_lines style file text) (take most_told found) ++ count_line file (length found)

@@ -9,4 +9,4 @@ mod told;
 pub use sentences::{hint_text, kind_words};
 pub use std::alloc::AllocError as OutOfMemory;
 pub use texts::{RefusalText, is_some_hint, refusal_text};
-pub use told::{ToldRefusal, told_refusals};
+pub use told::{MOST_TOLD, ToldRefusal, first_told, has_more, told_refusals};

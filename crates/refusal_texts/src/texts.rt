@@ -1,17 +1,17 @@
 // The text of a file that is refused.
 
-ghost use Rattle.std.specs.Prelude.{◌≡◌, IfOk, flat_map, length};
+ghost use Rattle.std.specs.Prelude.{◌≡◌, IfOk, flat_map, length, take};
 ghost use Rattle.lint_styles.specs.Styles.{source_of};
-ghost use Rattle.refusal_texts.specs.RefusalTexts.{count_line, error_count, error_line, is_some_hint as some_hint, note_line, place_words};
+ghost use Rattle.refusal_texts.specs.RefusalTexts.{count_line, error_count, error_line, is_some_hint as some_hint, most_told, note_line, place_words};
 ghost use Rattle.refusal_texts.specs.RefusalTexts.{refusal_lines, refusal_text_of, told_within, wanted_note};
 ghost use Rattle.text_pieces.specs.Pieces.{CanWrite, Writes};
 
 use crate::OutOfMemory;
 use crate::sentences::{kind_words, write_hint};
-use crate::told::{ToldRefusal, told_refusals};
+use crate::told::{ToldRefusal, first_told, has_more, told_refusals};
 use lint_styles::{Hue, Style, write_painted, write_shown, write_size, write_source_of};
 use std::alloc::Global;
-use tac_faults::{Hint, MOST_TOLD};
+use tac_faults::Hint;
 use tac_lines::Refusal;
 use tac_program::Limits;
 use text_pieces::{Pieces, Sink, Text, whole_text};
@@ -27,8 +27,8 @@ pub struct RefusalText<'a> {
     pub file: &'a [u8],
     /// Its text.
     pub text: &'a [u8],
-    /// What is told of it.
-    pub told: &'a [ToldRefusal],
+    /// What was found to be wrong with it, of which the first 20 are told.
+    pub found: &'a [ToldRefusal],
 }
 
 // Writes where a refusal stands.
@@ -68,12 +68,12 @@ pub fn is_some_hint(hint: Hint) -> bool
     }
 }
 
-// Writes how many errors there are.
+// Writes how many errors are told, of so many that were found.
 fn write_error_count<K: Sink>(out: &mut Pieces<'_, K>, count: usize)
     requires { CanWrite K.Sink out.old }
     ensures { Writes K.Sink out.old out.new (error_count count) }
 {
-    if count >= MOST_TOLD {
+    if has_more(count) {
         out.write(b"the first 20 errors");
     } else if count == 1 {
         out.write(b"1 error");
@@ -124,12 +124,13 @@ impl RefusalText<'_> {
         self.write_wanted_note(out, told);
     }
 
-    // Writes the lines of all refusals.
+    // Writes the lines of all refusals that are told.
     fn write_all<K: Sink>(&self, out: &mut Pieces<'_, K>)
         requires { CanWrite K.Sink out.old }
-        ensures { Writes K.Sink out.old out.new (flat_map (refusal_lines self.now.style self.now.file.now self.now.text.now) self.now.told.now) }
+        ensures { Writes K.Sink out.old out.new (flat_map (refusal_lines self.now.style self.now.file.now self.now.text.now)
+            (take most_told self.now.found.now)) }
     {
-        let all = self.told;
+        let all = first_told(self.found);
         for told in all {
             self.write_lines(out, *told);
         }
@@ -138,17 +139,17 @@ impl RefusalText<'_> {
     // Writes how many errors the file has.
     fn write_count<K: Sink>(&self, out: &mut Pieces<'_, K>)
         requires { CanWrite K.Sink out.old }
-        ensures { Writes K.Sink out.old out.new (count_line self.now.file.now (length self.now.told.now)) }
+        ensures { Writes K.Sink out.old out.new (count_line self.now.file.now (length self.now.found.now)) }
     {
         write_shown(out, self.file);
         out.write(b": ");
-        write_error_count(out, self.told.len());
+        write_error_count(out, self.found.len());
         out.write(b"\n");
     }
 }
 
 impl<'a> Text for RefusalText<'a> {
-    ghost bytes = { λ text. refusal_text_of text.style text.file.now text.text.now text.told.now };
+    ghost bytes = { λ text. refusal_text_of text.style text.file.now text.text.now text.found.now };
 
     fn write<K: Sink>(&self, out: &mut Pieces<'_, K>) {
         self.write_all(out);
@@ -166,15 +167,15 @@ pub fn refusal_text(
 ) -> Result<Vec<u8>, OutOfMemory>
     ensures { IfOk result (λ out. out.items ≡ refusal_text_of style file.now text.now (told_within limits text.now)) }
 {
-    let told = told_refusals(alloc, limits, text)?;
-    let told = told.as_slice();
+    let found = told_refusals(alloc, limits, text)?;
+    let found = found.as_slice();
     whole_text(
         alloc,
         &RefusalText {
             style,
             file,
             text,
-            told,
+            found,
         },
     )
 }

@@ -1,7 +1,7 @@
 // What is told of a text that is refused.
 
-ghost use Rattle.std.specs.Prelude.{IfOk, ◌≡◌};
-ghost use Rattle.refusal_texts.specs.RefusalTexts.{told_within};
+ghost use Rattle.std.specs.Prelude.{◌≡◌, nat_lt, take, IfOk};
+ghost use Rattle.refusal_texts.specs.RefusalTexts.{most_told, told_within};
 
 use crate::OutOfMemory;
 use std::alloc::Global;
@@ -10,6 +10,9 @@ use tac_hints::hint;
 use tac_lines::Refusal;
 use tac_program::Limits;
 
+/// How many refusals of a text are told.
+pub const MOST_TOLD: usize = 20;
+
 /// A refusal, and what is told on its mend.
 #[derive(Clone, Copy, PartialEq, Eq)]
 pub struct ToldRefusal {
@@ -17,7 +20,8 @@ pub struct ToldRefusal {
     pub hint: Hint,
 }
 
-/// All that is told of a text within these limits: none where it is a program, and no more than 20. Fails only where memory runs out.
+/// All that is found to be wrong with a text within these limits: nothing where it is a program, and no more than 21 refusals, one more than are
+/// told. Fails only where memory runs out.
 pub fn told_refusals(
     alloc: Global,
     limits: Limits,
@@ -36,4 +40,18 @@ pub fn told_refusals(
         })?;
     }
     Ok(told)
+}
+
+/// Those that are told, of the refusals that were found in a text.
+pub fn first_told(found: &[ToldRefusal]) -> &[ToldRefusal]
+    ensures { result.now ≡ take most_told found.now }
+{
+    &found[..found.len().min(MOST_TOLD)]
+}
+
+/// Whether more were found than are told.
+pub fn has_more(found: usize) -> bool
+    ensures { result ≡ nat_lt most_told found }
+{
+    found > MOST_TOLD
 }

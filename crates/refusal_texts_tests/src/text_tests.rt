@@ -220,12 +220,17 @@ fn whole_texts(rt: HostRuntime) -> Result<(), Fail> {
     Ok(())
 }
 
-// Of more faults than are told the first 20 are, and the last line says so.
-#[test]
-fn more_than_are_told(rt: HostRuntime) -> Result<(), Fail> {
-    let mut text = Vec::new(rt.alloc());
+// A text of 20 lines that are wrong, with these lines behind them, of which the first 20 errors are told and these words on how many there are.
+fn check_many(
+    rt: &impl Abort,
+    alloc: Global,
+    more: &str,
+    count: &str,
+    name: &str,
+) -> Result<(), Fail> {
+    let mut text = Vec::new(alloc);
     push_line(&mut text, "proc main")?;
-    let mut many = Vec::new(rt.alloc());
+    let mut many = Vec::new(alloc);
     let columns = [
         "2:5", "3:5", "4:5", "5:5", "6:5", "7:5", "8:5", "9:5", "10:5", "11:5", "12:5", "13:5",
         "14:5", "15:5", "16:5", "17:5", "18:5", "19:5", "20:5", "21:5",
@@ -243,12 +248,24 @@ fn more_than_are_told(rt: HostRuntime) -> Result<(), Fail> {
             ": note: a statement ends with its line: leave the semicolon out",
         )?;
     }
-    push_line(&mut text, "x = ;")?;
-    push_line(&mut text, "end")?;
-    push_line(&mut many, "a.tac: the first 20 errors")?;
-    let written = plain_text(rt.alloc(), &text)?;
-    check(&rt, &written, &many, "21 faults");
+    push_line(&mut text, more)?;
+    push_line(&mut many, count)?;
+    let written = plain_text(alloc, &text)?;
+    check(rt, &written, &many, name);
     Ok(())
+}
+
+// Exactly 20 errors are all; of 21 the first 20 are told, and the last line says so.
+#[test]
+fn twenty_errors_and_more(rt: HostRuntime) -> Result<(), Fail> {
+    check_many(&rt, rt.alloc(), "end", "a.tac: 20 errors", "20 faults")?;
+    check_many(
+        &rt,
+        rt.alloc(),
+        "x = ;\nend",
+        "a.tac: the first 20 errors",
+        "21 faults",
+    )
 }
 
 // The source behind each error: no control byte but a tab as it is, with the sign below what is shown of the byte; an empty line is left out.

@@ -6,7 +6,7 @@ use Rattle.std.proofs.lemmas.List.{drop_all, take_rest}
 use Rattle.std.proofs.lemmas.Bool.{cases_lt, le-ltb, lt-ltb}
 use Rattle.std.proofs.lemmas.List.Sums.{prefix_len-le-length}
 use Rattle.tac_faults.specs.Laws.{FirstIsTheReaders, NoneIsAccepted}
-use Rattle.tac_faults.specs.Listed.{faults_within, first_faults, inside_next, most_told, or_else, refusals_within}
+use Rattle.tac_faults.specs.Listed.{faults_within, first_faults, inside_next, most_found, or_else, refusals_within}
 use Rattle.tac_lines.specs.LineFaults.{at, first_by_place, inside_after, line_faults, row_faults}
 use Rattle.tac_lines.specs.Text.{lines, no_line_end}
 use Rattle.tac_lines.specs.Tokens.{Row, row_from, rows, rows_from}
@@ -119,7 +119,7 @@ head_is limits text =
     head_choice long (first_faults text false (rows text)) (name_faults limits (sections text))
     ∙ ap (λ o. one long o (head_of (name_faults limits (sections text)))) (first_is text)
 
-first_told : (text : List ℕ) (fs : List Fault) → slice_get (map (refusal_at text) (take most_told fs)) 0 ≡ option_map (refusal_at text) (head_of fs)
+first_told : (text : List ℕ) (fs : List Fault) → slice_get (map (refusal_at text) (take most_found fs)) 0 ≡ option_map (refusal_at text) (head_of fs)
 first_told text [] = refl
 first_told text (f ∷ fs) = refl
 

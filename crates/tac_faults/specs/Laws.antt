@@ -1,4 +1,4 @@
--- What one wants to know of the faults that are told.
+-- What one wants to know of the faults that are found.
 use Rattle.std.specs.Prelude.{◌≡◌, ℕ, ◌↔◌, List, [], None, slice_get}
 use Rattle.tac_faults.specs.Listed.{refusals_within}
 use Rattle.tac_program.specs.declared.limits.Limits.{Limits}

@@ -1,4 +1,4 @@
--- All that is wrong with a text, as far as it is told.
+-- All that is wrong with a text, as far as it is found.
 use Rattle.std.specs.Prelude.{ℕ, zero, Bool, true, false, ◌&&◌, ◌||◌, ◌==◌, List, [], ◌∷◌, ◌++◌, map, take, drop, length, Option, Some, None, nat_lt}
 use Rattle.std.specs.Prelude.{codes, if◌then◌else◌}
 use Rattle.tac_faults.specs.Hints.Near.{is_near, is_same_but_for_capitals}
@@ -18,9 +18,9 @@ use Rattle.tac_program.specs.declared.limits.Limits.{Limits}
 use Rattle.tac_reader.specs.Faults.{name_faults, refusal_at}
 use Rattle.tac_reader.specs.Sections.{sections}
 
--- How many faults of a text are told.
-abbrev pub most_told : ℕ
-most_told = 20
+-- How many faults of a text are found: one more than a reader is told, so that it is known whether there are more.
+abbrev pub most_found : ℕ
+most_found = 21
 
 -- The words of a line. Where it begins with bytes beyond ASCII, as with a byte order mark, those that stand behind them in the line.
 abbrev pub first_line : List (List ℕ) → List ℕ
@@ -70,6 +70,6 @@ faults_within limits text =
     if nat_lt (longest_text limits) (length text) then at kind.TextTooLong 0
     else or_else (first_faults text false (rows text)) (name_faults limits (sections text))
 
--- Those that are told: the first ones, by line and column.
+-- The first of them, by line and column.
 abbrev pub refusals_within : Limits → List ℕ → List Refusal
-refusals_within limits text = map (refusal_at text) (take most_told (faults_within limits text))
+refusals_within limits text = map (refusal_at text) (take most_found (faults_within limits text))

@@ -1,13 +1,13 @@
 // A text to all that is wrong with it.
 
 ghost use Rattle.std.specs.Prelude.{◌≡◌, ◌<◌, ◌≤◌, ◌^◌, map, take, length, IfOk};
-ghost use Rattle.tac_faults.specs.Listed.{faults_within, most_told, refusals_within};
+ghost use Rattle.tac_faults.specs.Listed.{faults_within, most_found, refusals_within};
 ghost use Rattle.tac_program.specs.Limits.{longest_text};
 ghost use Rattle.tac_reader.specs.Faults.{refusal_at};
 
 use crate::lines::line_faults;
 use crate::names::name_faults;
-use crate::told::MOST_TOLD;
+use crate::told::MOST_FOUND;
 use std::alloc::Global;
 use tac_lines::lex::lex;
 use tac_lines::{Fault, Lines, OutOfMemory, Refusal, RefusalKind, Stop};
@@ -15,22 +15,22 @@ use tac_program::Limits;
 use tac_reader::located_refusal;
 use tac_reader::section::sections;
 
-/// The faults that are told, by line and column.
+/// The first of these faults, by line and column.
 fn located(alloc: Global, text: &[u8], faults: &[Fault]) -> Result<Vec<Refusal>, OutOfMemory>
     requires { length text.now < 2 ^ 31 }
-    ensures { IfOk result (λ found. found.items ≡ map (refusal_at text.now) (take most_told faults.now)) }
+    ensures { IfOk result (λ found. found.items ≡ map (refusal_at text.now) (take most_found faults.now)) }
 {
-    let mut found = Vec::with_capacity(alloc, MOST_TOLD)?;
-    for fault in &faults[..faults.len().min(MOST_TOLD)] {
+    let mut found = Vec::with_capacity(alloc, MOST_FOUND)?;
+    for fault in &faults[..faults.len().min(MOST_FOUND)] {
         found.push(located_refusal(text, *fault))?;
     }
     Ok(found)
 }
 
-/// The faults of a text no longer than the limits allow, at least as many as are told.
+/// The faults of a text no longer than the limits allow, at least as many as are looked for.
 fn faults(alloc: Global, limits: Limits, text: &[u8]) -> Result<Vec<Fault>, OutOfMemory>
     requires { length text.now ≤ longest_text limits }
-    ensures { IfOk result (λ found. take most_told found.items ≡ take most_told (faults_within limits text.now)) }
+    ensures { IfOk result (λ found. take most_found found.items ≡ take most_found (faults_within limits text.now)) }
 {
     match lex(alloc, text) {
         Ok(lexed) => {
@@ -42,7 +42,7 @@ fn faults(alloc: Global, limits: Limits, text: &[u8]) -> Result<Vec<Fault>, OutO
     }
 }
 
-/// All that is wrong with a text within these limits, as far as it is told: no more than `MOST_TOLD` faults.
+/// All that is wrong with a text within these limits, as far as it is looked for: no more than `MOST_FOUND` faults.
 ///
 /// There are none exactly where `tac_reader::read_within` accepts the text, and else the first is the one for
 /// which it refuses it. Of each line that has faults its first one is told, and the faults of names where no

@@ -13,4 +13,4 @@ mod told;
 
 pub use faults::refusals;
 pub use slips::{Bytes, Hint, Slip};
-pub use told::MOST_TOLD;
+pub use told::MOST_FOUND;

@@ -2,7 +2,7 @@
 
 ghost use Rattle.std.specs.Prelude.{◌≡◌, ◌<◌, ◌≤◌, ◌^◌, ◌++◌, take, length, false, IfOk, IfSome, OnOk};
 ghost use Rattle.tac_faults.specs.Listed.{first_faults, inside_behind as inside_behind_line, inside_next as inside_after_line, is_meant as meant};
-ghost use Rattle.tac_faults.specs.Listed.{most_told, words_from, words_of};
+ghost use Rattle.tac_faults.specs.Listed.{most_found, words_from, words_of};
 ghost use Rattle.tac_lines.specs.Tokens.{rows};
 ghost use Rattle.tac_lines.specs.code.Views.{fault_list, tokens_view};
 ghost use Rattle.tac_program.specs.Limits.{longest_text};
@@ -11,7 +11,7 @@ ghost use Rattle.tac_program.specs.declared.limits.Limits.TheVariants.{Large};
 use crate::near::{is_near, is_same_but_for_capitals};
 use crate::places::{name_at, not_ascii_stop, stands};
 use crate::row::read_row;
-use crate::told::{MOST_TOLD, tell};
+use crate::told::{MOST_FOUND, tell};
 use std::alloc::Global;
 use tac_lines::lex::{is_end, is_proc, line_stop};
 use tac_lines::{Fault, Keyword, OutOfMemory, RefusalKind, Slot, Token, row_fault};
@@ -96,7 +96,7 @@ fn inside_next(
 
 /// Puts the fault last, where there is one.
 fn tell_found(found: &mut Vec<Fault>, fault: Option<Fault>) -> Result<(), OutOfMemory>
-    ensures { OnOk result (take most_told found.new.items ≡ take most_told (found.old.items ++ fault_list fault)) }
+    ensures { OnOk result (take most_found found.new.items ≡ take most_found (found.old.items ++ fault_list fault)) }
 {
     match fault {
         None => Ok(()),
@@ -104,18 +104,18 @@ fn tell_found(found: &mut Vec<Fault>, fault: Option<Fault>) -> Result<(), OutOfM
     }
 }
 
-/// The first faults of the lines of a text, in the order of lines, at least as many as are told.
+/// The first faults of the lines of a text, in the order of lines, at least as many as are looked for.
 pub fn line_faults(alloc: Global, text: &[u8]) -> Result<Vec<Fault>, OutOfMemory>
     requires { length text.now ≤ longest_text Large }
     ensures { IfOk result (λ found.
-        take most_told found.items ≡ take most_told (first_faults text.now false (rows text.now))) }
+        take most_found found.items ≡ take most_found (first_faults text.now false (rows text.now))) }
 {
     let mut found = Vec::new(alloc);
     let mut row = Vec::new(alloc);
     let mut inside = false;
     let mut at = 0;
     while at < text.len() {
-        if found.len() >= MOST_TOLD {
+        if found.len() >= MOST_FOUND {
             return Ok(found);
         }
         let stop = line_stop(text, at);

@@ -1,7 +1,7 @@
 // The faults of names, in the order in which the reader looks for them.
 
 ghost use Rattle.std.specs.Prelude.{◌≡◌, ◌++◌, ℕ, List, [], take, flat_map, drop, codes, if◌then◌else◌, IfOk, OnOk};
-ghost use Rattle.tac_faults.specs.Listed.{most_told};
+ghost use Rattle.tac_faults.specs.Listed.{most_found};
 ghost use Rattle.tac_lines.specs.Forms.{callees_of};
 ghost use Rattle.tac_lines.specs.LineFaults.{at};
 ghost use Rattle.tac_lines.specs.Tokens.{Token as Word};
@@ -47,7 +47,7 @@ fn tell_repeated(
     tokens: &[Token],
 ) -> Result<(), OutOfMemory>
     ensures { OnOk result
-        (take most_told found.new.items ≡ take most_told (found.old.items ++ repeated kind [] (tokens_view text.now tokens.now))) }
+        (take most_found found.new.items ≡ take most_found (found.old.items ++ repeated kind [] (tokens_view text.now tokens.now))) }
 {
     let mut names = NameTable::new(alloc);
     for token in tokens {
@@ -66,7 +66,7 @@ fn tell_unknown(
     tokens: &[Token],
 ) -> Result<(), OutOfMemory>
     ensures { (known : List Word) → names.now ≡ each_once (names_in known) → OnOk result
-        (take most_told found.new.items ≡ take most_told (found.old.items ++ unknown kind known (tokens_view text.now tokens.now))) }
+        (take most_found found.new.items ≡ take most_found (found.old.items ++ unknown kind known (tokens_view text.now tokens.now))) }
 {
     for token in tokens {
         let is_unknown = names.find(token.spelling(text)).is_none();
@@ -95,7 +95,7 @@ fn tell_section_labels(
     text: &[u8],
     section: &Section<'_>,
 ) -> Result<(), OutOfMemory>
-    ensures { OnOk result (take most_told found.new.items ≡ take most_told
+    ensures { OnOk result (take most_found found.new.items ≡ take most_found
         (found.old.items ++ repeated DuplicateLabel [] (labels_in (section_view text.now section.now)))) }
 {
     buffer.clear();
@@ -118,7 +118,7 @@ fn tell_labels(
     text: &[u8],
     sections: &[Section<'_>],
 ) -> Result<(), OutOfMemory>
-    ensures { OnOk result (take most_told found.new.items ≡ take most_told
+    ensures { OnOk result (take most_found found.new.items ≡ take most_found
         (found.old.items ++ flat_map (λ s. repeated DuplicateLabel [] (labels_in s)) (sections_view text.now sections.now))) }
 {
     let mut buffer = Vec::new(alloc);
@@ -152,7 +152,7 @@ fn tell_section_jumps(
     text: &[u8],
     section: &Section<'_>,
 ) -> Result<(), OutOfMemory>
-    ensures { OnOk result (take most_told found.new.items ≡ take most_told (found.old.items
+    ensures { OnOk result (take most_found found.new.items ≡ take most_found (found.old.items
         ++ unknown UnknownLabel (labels_in (section_view text.now section.now)) (jumps_in (section_view text.now section.now)))) }
 {
     let names = label_names(alloc, seeds, buffer, text, section)?;
@@ -169,7 +169,7 @@ fn tell_jumps(
     text: &[u8],
     sections: &[Section<'_>],
 ) -> Result<(), OutOfMemory>
-    ensures { OnOk result (take most_told found.new.items ≡ take most_told
+    ensures { OnOk result (take most_found found.new.items ≡ take most_found
         (found.old.items ++ flat_map (λ s. unknown UnknownLabel (labels_in s) (jumps_in s)) (sections_view text.now sections.now))) }
 {
     let mut buffer = Vec::new(alloc);
@@ -187,8 +187,8 @@ fn tell_section_callees(
     section: &Section<'_>,
     procedures: &NameTable,
 ) -> Result<(), OutOfMemory>
-    ensures { (known : List Word) → procedures.now ≡ each_once (names_in known) → OnOk result (take most_told found.new.items
-        ≡ take most_told (found.old.items ++ unknown UnknownProcedure known (callees_in (section_view text.now section.now)))) }
+    ensures { (known : List Word) → procedures.now ≡ each_once (names_in known) → OnOk result (take most_found found.new.items
+        ≡ take most_found (found.old.items ++ unknown UnknownProcedure known (callees_in (section_view text.now section.now)))) }
 {
     buffer.clear();
     section_cells(buffer, Role::Callee, section.lines)?;
@@ -209,8 +209,8 @@ fn tell_callees(
     sections: &[Section<'_>],
     procedures: &NameTable,
 ) -> Result<(), OutOfMemory>
-    ensures { (known : List Word) → procedures.now ≡ each_once (names_in known) → OnOk result (take most_told found.new.items
-        ≡ take most_told (found.old.items ++ flat_map (λ s. unknown UnknownProcedure known (callees_in s)) (sections_view text.now sections.now))) }
+    ensures { (known : List Word) → procedures.now ≡ each_once (names_in known) → OnOk result (take most_found found.new.items
+        ≡ take most_found (found.old.items ++ flat_map (λ s. unknown UnknownProcedure known (callees_in s)) (sections_view text.now sections.now))) }
 {
     let mut buffer = Vec::new(alloc);
     for section in sections {
@@ -228,7 +228,7 @@ fn tell_section_calls(
     text: &[u8],
     section: &Section<'_>,
 ) -> Result<(), OutOfMemory>
-    ensures { OnOk result (take most_told found.new.items ≡ take most_told (found.old.items
+    ensures { OnOk result (take most_found found.new.items ≡ take most_found (found.old.items
         ++ flat_map (λ c. repeated DuplicateCallee [] (callees_of c)) (statements_of (section_view text.now section.now).body))) }
 {
     let lines = section.lines;
@@ -255,7 +255,7 @@ fn tell_calls(
     text: &[u8],
     sections: &[Section<'_>],
 ) -> Result<(), OutOfMemory>
-    ensures { OnOk result (take most_told found.new.items ≡ take most_told (found.old.items
+    ensures { OnOk result (take most_found found.new.items ≡ take most_found (found.old.items
         ++ flat_map (λ s. flat_map (λ c. repeated DuplicateCallee [] (callees_of c)) (statements_of s.body)) (sections_view text.now sections.now))) }
 {
     let mut buffer = Vec::new(alloc);
@@ -267,7 +267,7 @@ fn tell_calls(
 
 /// Tells of the procedures that are more than the limits allow.
 fn tell_many(found: &mut Vec<Fault>, limits: Limits, titles: &[Token]) -> Result<(), OutOfMemory>
-    ensures { (text : List ℕ) → OnOk result (take most_told found.new.items ≡ take most_told
+    ensures { (text : List ℕ) → OnOk result (take most_found found.new.items ≡ take most_found
         (found.old.items ++ flat_map (λ t. at TooManyProcedures t.start) (drop (most_procedures limits) (tokens_view text titles.now)))) }
 {
     let most = titles.len().min(limits.procedures() as usize);
@@ -279,21 +279,21 @@ fn tell_many(found: &mut Vec<Fault>, limits: Limits, titles: &[Token]) -> Result
 
 /// Tells that no procedure is called `main`, where that is so.
 fn tell_no_main(found: &mut Vec<Fault>, procedures: &NameTable) -> Result<(), OutOfMemory>
-    ensures { (known : List Word) → procedures.now ≡ each_once (names_in known) → OnOk result (take most_told found.new.items
-        ≡ take most_told (found.old.items ++ (if is_one_of (codes "main") (names_in known) then [] else at NoMain 0))) }
+    ensures { (known : List Word) → procedures.now ≡ each_once (names_in known) → OnOk result (take most_found found.new.items
+        ≡ take most_found (found.old.items ++ (if is_one_of (codes "main") (names_in known) then [] else at NoMain 0))) }
 {
     let is_missing = procedures.find(b"main").is_none();
     tell(found, is_missing, RefusalKind::NoMain, 0)
 }
 
-/// The faults of names, in the order in which the reader looks for them, at least as many as are told.
+/// The faults of names, in the order in which the reader looks for them, at least as many as are looked for.
 pub fn name_faults(
     alloc: Global,
     text: &[u8],
     sections: &[Section<'_>],
     limits: Limits,
 ) -> Result<Vec<Fault>, OutOfMemory>
-    ensures { IfOk result (λ found. take most_told found.items ≡ take most_told (faults_of_names limits (sections_view text.now sections.now))) }
+    ensures { IfOk result (λ found. take most_found found.items ≡ take most_found (faults_of_names limits (sections_view text.now sections.now))) }
 {
     let mut seeds = NameSeeds::of(text);
     let mut found = Vec::new(alloc);

@@ -3,7 +3,7 @@
 use std::alloc::Global;
 use std::process::Abort;
 use std::test::Fail;
-use tac_faults::{Hint, MOST_TOLD, refusals};
+use tac_faults::{Hint, MOST_FOUND, refusals};
 use tac_hints::hint;
 use tac_lines::{OutOfMemory, Refusal, RefusalKind};
 use tac_program::Limits;
@@ -68,14 +68,14 @@ fn repeated(
     Ok(text)
 }
 
-/// Of 25 lines that are wrong 20 are told, in order.
+/// Of 25 lines that are wrong 21 are found, in order.
 #[test]
-fn twenty_are_told(rt: HostRuntime) -> Result<(), Fail> {
+fn twenty_one_are_found(rt: HostRuntime) -> Result<(), Fail> {
     let text = repeated(rt.alloc(), b"proc main\n", b"x = ;\n", 25, b"end\n")?;
     let got = summed_up(rt.alloc(), &text)?;
     let first = at(RefusalKind::BadByte, 2, 5);
-    let last = at(RefusalKind::BadByte, 21, 5);
-    check(&rt, got, MOST_TOLD, first, last, Hint::Semicolon);
+    let last = at(RefusalKind::BadByte, 22, 5);
+    check(&rt, got, MOST_FOUND, first, last, Hint::Semicolon);
     Ok(())
 }
 
@@ -95,13 +95,13 @@ fn long_text(rt: HostRuntime) -> Result<(), Fail> {
     Ok(())
 }
 
-/// A name that is there 21 times is told 20 times, and last in its line.
+/// Of a name that is there 25 times the first 21 that repeat it are found, in their line.
 #[test]
 fn many_labels(rt: HostRuntime) -> Result<(), Fail> {
     let text = repeated(rt.alloc(), b"proc main\n", b"L:", 25, b"\nend\n")?;
     let got = summed_up(rt.alloc(), &text)?;
     let first = at(RefusalKind::DuplicateLabel, 2, 3);
-    let last = at(RefusalKind::DuplicateLabel, 2, 41);
+    let last = at(RefusalKind::DuplicateLabel, 2, 43);
     let hint = Hint::First(
         2,
         tac_faults::Bytes {
@@ -109,6 +109,6 @@ fn many_labels(rt: HostRuntime) -> Result<(), Fail> {
             stop: 11,
         },
     );
-    check(&rt, got, MOST_TOLD, first, last, hint);
+    check(&rt, got, MOST_FOUND, first, last, hint);
     Ok(())
 }

@@ -8,7 +8,6 @@ use Rattle.tac_faults.specs.declared.slips.Hint.TheVariants as hint
 use Rattle.tac_faults.specs.declared.slips.Slip.TheVariants as slip
 use Rattle.tac_faults.specs.Hints.Choices.{or_hint}
 use Rattle.tac_faults.specs.Hints.Places.{bytes, bytes_at, is_not_ascii, run_stop, stands}
-use Rattle.tac_slips.specs.Slips.{opening_hint}
 
 -- The bytes 239, 187 and 191 at the text's start.
 abbrev pub mark_hint : List ℕ → ℕ → Hint
@@ -22,11 +21,10 @@ called_hint text before place =
     (if slice_index text place == 40 then hint.Call (bytes_at before (length before - 1))
     else if slice_index text place == 91 then hint.Index (bytes_at before (length before - 1)) else hint.None) else hint.None
 
--- A parenthesis behind the name of a procedure, or in a line that begins as a procedure of another language does.
+-- A parenthesis in a line that begins with `proc`.
 abbrev pub parameters_hint : List ℕ → List Token → ℕ → Hint
 parameters_hint text before place =
-    if slice_index text place == 40 then
-    (if stands (key (codes "proc")) before 0 then hint.Slip slip.Parameters (bytes_at before (length before - 1)) else opening_hint before)
+    if slice_index text place == 40 && stands (key (codes "proc")) before 0 then hint.Slip slip.Parameters (bytes_at before (length before - 1))
     else hint.None
 
 abbrev pub comma_hint : List ℕ → ℕ → Hint

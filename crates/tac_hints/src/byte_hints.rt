@@ -12,7 +12,6 @@ use tac_faults::places::{
 };
 use tac_faults::slips::{Bytes, Hint, Slip, or_hint_of};
 use tac_lines::{Keyword, Slot, Token};
-use tac_slips::opening_hint;
 
 /// The byte order mark at the text's start.
 fn mark_hint(text: &[u8], place: usize) -> Hint
@@ -43,20 +42,17 @@ fn called_hint(text: &[u8], before: &[Token], place: usize) -> Hint
     }
 }
 
-/// A parenthesis behind the name of a procedure, or in a line that begins as a procedure of another language does.
+/// A parenthesis in a line that begins with `proc`.
 fn parameters_hint(text: &[u8], before: &[Token], place: usize) -> Hint
     ensures { result ≡ of_parameters text.now (tokens_view text.now before.now) place }
 {
-    if byte_at(text, place) != b'(' {
-        return Hint::None;
-    }
-    if stands(Slot::Keyword(Keyword::Proc), before, 0) {
+    if byte_at(text, place) == b'(' && stands(Slot::Keyword(Keyword::Proc), before, 0) {
         Hint::Slip(
             Slip::Parameters,
             bytes_at(before, before.len().saturating_sub(1)),
         )
     } else {
-        opening_hint(text, before)
+        Hint::None
     }
 }
 

@@ -7,7 +7,7 @@ ghost use Rattle.tac_faults.specs.Hints.Places.{bytes};
 ghost use Rattle.tac_hints.specs.Texts.{hint_of};
 ghost use Rattle.tac_faults.specs.Listed.{refusals_within};
 ghost use Rattle.tac_faults.specs.declared.slips.Hint.TheVariants.{Byte, Call, Capitals, Comment, EndLacks, First, Float, Misspelt, Nearest};
-ghost use Rattle.tac_faults.specs.declared.slips.Hint.TheVariants.{Negative, None, Reserved, SecondOperator, Semicolon, Slip};
+ghost use Rattle.tac_faults.specs.declared.slips.Hint.TheVariants.{Negative, None, Parenthesis, Reserved, SecondOperator, Semicolon, Slip};
 ghost use Rattle.tac_faults.specs.declared.slips.Slip.TheVariants.{Assignment, ColonInJump, Comma, Connective, Control, Declaration, Different};
 ghost use Rattle.tac_faults.specs.declared.slips.Slip.TheVariants.{Negation, NumberAndName, NumberForName, Opening, OwnLine, Parameters, Pointer};
 ghost use Rattle.tac_faults.specs.declared.slips.Slip.TheVariants.{SecondStatement, Turned};
@@ -64,7 +64,7 @@ pub fn slip_hints()
     ensures compared { hint_at Syntax 3 (codes "x == 1") ≡ Slip Assignment (bytes 12 14) }
     ensures declared { hint_at Syntax 5 (codes "int x") ≡ Slip Declaration (bytes 10 13) }
     ensures opened { hint_of Standard (codes "def main\nend\n") (refused Syntax 1 1) ≡ Slip Opening (bytes 0 3) }
-    ensures opened_with_parameters { hint_of Standard (codes "int main() {\n") (refused BadByte 1 9) ≡ Slip Opening (bytes 0 3) }
+    ensures opening_word_as_variable { hint_at BadByte 8 (codes "func = (x)") ≡ Parenthesis }
     ensures loops { hint_at Syntax 7 (codes "while x < 3") ≡ Slip Control (bytes 10 15) }
     ensures otherwise { hint_at Syntax 13 (codes "if x goto L else goto M") ≡ Slip Control (bytes 22 26) }
     ensures pointer { hint_at Syntax 1 (codes "*p = 1") ≡ Slip Pointer (bytes 10 12) }

@@ -3,4 +3,4 @@
 
 mod slips;
 
-pub use slips::{first_slip, later_slip, opening_hint, second_slip};
+pub use slips::{first_slip, later_slip, second_slip};

@@ -132,7 +132,7 @@ fn declaration_hint(text: &[u8], tokens: &[Token]) -> Hint
 }
 
 /// A word that opens a procedure.
-pub fn opening_hint(text: &[u8], tokens: &[Token]) -> Hint
+fn opening_hint(text: &[u8], tokens: &[Token]) -> Hint
     ensures { result ≡ of_opening (tokens_view text.now tokens.now) }
 {
     if opens(name_at(text, tokens, 0)) {

@@ -4,12 +4,16 @@
 ghost use Rattle.std.specs.Prelude.{◌≡◌, ◌<◌, ◌-◌, ◌^◌, false};
 
 use flow_runs::Fault;
-use lint_commands::{Options, OutOfMemory, Request, Told, Wish, failed_line, missing_line, run};
+use lint_commands::{
+    Crew, Options, OutOfMemory, Request, Told, Wish, failed_line, missing_line, run,
+};
 use lint_styles::shown_bytes;
+use run_progress::{Progress, Terminal};
 use std::alloc::Global;
 use std::fs::File;
 use std::io::{ErrorKind, IsTerminal, Write};
 use std::process::ExitCode;
+use std::thread::Threads;
 use std::{env, io};
 use text_pieces::{FromRead, Source, ToWrite};
 
@@ -93,40 +97,51 @@ fn has_no_color(rt: &HostRuntime) -> bool {
     }
 }
 
+// Who looks at files, and what is asked for of them. `threads` is the runtime once more: it is a handle for threads only where `main` names it.
+#[derive(Drop)]
+struct Task<'a, R> {
+    rt: &'a HostRuntime,
+    threads: &'a R,
+    options: &'a Options,
+    request: Request<'a>,
+}
+
 // Tells of what a source has, and what came of that.
-fn look_at<S: Source>(
-    rt: &HostRuntime,
-    options: &Options,
-    request: Request<'_>,
-    name: &str,
-    source: &mut S,
-) -> Outcome
+fn look_at<R: Threads + Sync, S: Source>(task: &Task<'_, R>, name: &str, source: &mut S) -> Outcome
     requires running { S.ended source.old ≡ false }
     requires below { S.faults source.old < 2 ^ 32 - 1 }
 {
+    let rt = task.rt;
     let mut sink = ToWrite::new(rt.stdout());
     let wish = Wish {
-        limits: options.limits,
-        request,
+        limits: task.options.limits,
+        request: task.request,
         name: name.as_bytes(),
     };
-    match run(rt.alloc(), wish, source, &mut sink) {
+    let progress = Progress::new(rt.alloc(), NAME, Terminal::of(*rt));
+    let crew = Crew {
+        threads: task.threads,
+        gate: &progress,
+        workers: task.options.workers,
+    };
+    match run(&crew, rt.alloc(), wish, source, &mut sink) {
         Ok(Told::Nothing) => Outcome::of(0),
-        Ok(Told::Remarks) => Outcome::of(if options.error { REMARKS } else { 0 }),
+        Ok(Told::Remarks) => Outcome::of(if task.options.error { REMARKS } else { 0 }),
         Ok(Told::Errors) => Outcome::of(FAILED),
         Err(fault) => tell_fault(rt, wish, &fault),
     }
 }
 
-fn look_at_file(rt: &HostRuntime, options: &Options, request: Request<'_>, name: &str) -> Outcome {
+fn look_at_file<R: Threads + Sync>(task: &Task<'_, R>, name: &str) -> Outcome {
+    let rt = task.rt;
     if name == "-" {
         let mut source = FromRead::new(rt.stdin());
-        return look_at(rt, options, request, STANDARD_INPUT, &mut source);
+        return look_at(task, STANDARD_INPUT, &mut source);
     }
     match File::open(rt, name) {
         Ok(file) => {
             let mut source = FromRead::new(file);
-            look_at(rt, options, request, name, &mut source)
+            look_at(task, name, &mut source)
         }
         Err(error) => {
             tell_line(rt, closed_line(rt.alloc(), name, &error));
@@ -136,18 +151,18 @@ fn look_at_file(rt: &HostRuntime, options: &Options, request: Request<'_>, name:
 }
 
 // Looks at standard input, since no file is asked for. Who types at a terminal is told so.
-fn look_at_input(rt: &HostRuntime, options: &Options, request: Request<'_>) -> u8 {
-    if rt.stdin().is_terminal() {
-        let _ = rt.stderr().write_all(READING);
+fn look_at_input<R: Threads + Sync>(task: &Task<'_, R>) -> u8 {
+    if task.rt.stdin().is_terminal() {
+        let _ = task.rt.stderr().write_all(READING);
     }
-    look_at_file(rt, options, request, "-").status
+    look_at_file(task, "-").status
 }
 
 // The largest status of all files. Behind a reader that has gone away no more are looked at.
-fn look_at_all(rt: &HostRuntime, options: &Options, request: Request<'_>) -> u8 {
+fn look_at_all<R: Threads + Sync>(task: &Task<'_, R>) -> u8 {
     let mut status = 0;
-    for name in &options.files {
-        let outcome = look_at_file(rt, options, request, name.as_str());
+    for name in &task.options.files {
+        let outcome = look_at_file(task, name.as_str());
         status = status.max(outcome.status);
         if outcome.gone {
             break;
@@ -156,17 +171,24 @@ fn look_at_all(rt: &HostRuntime, options: &Options, request: Request<'_>) -> u8 
     status
 }
 
-fn look(rt: &HostRuntime, options: &Options) -> ExitCode {
+fn look<R: Threads + Sync>(rt: &HostRuntime, threads: &R, options: &Options) -> ExitCode {
     let request = Request {
         kinds: options.kinds,
         procedure: options.procedure.as_ref().map(|name| name.as_bytes()),
+        why: options.why,
         form: options.format,
         style: options.style(rt.stdout().is_terminal(), has_no_color(rt)),
     };
+    let task = Task {
+        rt,
+        threads,
+        options,
+        request,
+    };
     if options.files.is_empty() {
-        return ExitCode::from(look_at_input(rt, options, request));
+        return ExitCode::from(look_at_input(&task));
     }
-    ExitCode::from(look_at_all(rt, options, request))
+    ExitCode::from(look_at_all(&task))
 }
 
 // Tells help on standard output, and what is wrong with the words on standard error.
@@ -185,20 +207,20 @@ fn tell_words(rt: &HostRuntime, error: &clap::Error) -> ExitCode {
     }
 }
 
-fn run_words(rt: &HostRuntime) -> io::Result<ExitCode> {
+fn run_words<R: Threads + Sync>(rt: &HostRuntime, threads: &R) -> io::Result<ExitCode> {
     let owned: Vec<String> = env::args(rt)?.collect(rt.alloc())?;
     let mut words: Vec<&str> = owned.iter().map(|word| word.as_str()).collect(rt.alloc())?;
     if words.len() <= 1 && rt.stdin().is_terminal() {
         words.push("--help")?;
     }
     match Options::from_words(rt.alloc(), &words) {
-        Ok(options) => Ok(look(rt, &options)),
+        Ok(options) => Ok(look(rt, threads, &options)),
         Err(error) => Ok(tell_words(rt, &error)),
     }
 }
 
 fn main(rt: HostRuntime) -> ExitCode {
-    match run_words(&rt) {
+    match run_words(&rt, &rt) {
         Ok(code) => code,
         Err(error) => {
             if error.kind() == ErrorKind::OutOfMemory {

@@ -7,9 +7,9 @@ use Rattle.clap.specs.Words.{FailsBy, HasKind, Row, Text, fault_of, kind_of, mat
 use Rattle.clap.specs.declared.builder.possible_value.PossibleValue.{PossibleValue}
 use Rattle.clap.specs.declared.error.Error.{Error}
 use Rattle.clap.specs.declared.error.kind.ErrorKind.TheVariants.{OutOfMemory}
-use Rattle.flow_runs.specs.Words.{AreKindsOf}
+use Rattle.flow_runs.specs.Words.{AreKindsOf, sizes}
 use Rattle.lint_commands.specs.Commands.{AnswersWords, NamesOptions, option_kinds, taclint_command}
-use Rattle.lint_commands.specs.Kinds.{colorings, forms, sizes}
+use Rattle.lint_commands.specs.Kinds.{colorings, forms}
 use Rattle.lint_commands.specs.declared.options.Options.{Options}
 
 -- an error of options that fit is want of memory

@@ -5,10 +5,12 @@ use Rattle.flow_graph.specs.Points.{point_count}
 use Rattle.flow_graph.specs.Universes.{bits}
 use Rattle.flow_graph.specs.declared.analysis.Analysis.TheVariants.{Reach, Avail}
 use Rattle.flow_lints.specs.declared.lint.Linted.{Linted}
-use Rattle.flow_reports.specs.code.Answered.{facts_in}
-use Rattle.flow_reports.specs.code.Reported.{Reported, TellReport}
+use Rattle.report_answers.specs.code.Answered.{facts_in}
+use Rattle.report_answers.specs.code.Reported.{Reported, TellReport}
 use Rattle.flow_texts.specs.Tables.{bit_text}
+use Rattle.lint_texts.specs.LintTexts.{AreWays, Known, known_of, uses_told}
 use Rattle.lint_texts.specs.Starts.{starts_of}
+use Rattle.lint_texts.specs.code.Uses.{AreAllTurns, TellUses, ways_in}
 use Rattle.lint_texts.specs.declared.file.File.{File}
 use Rattle.lint_texts.specs.declared.lines.LintLines.{LintLines}
 use Rattle.lint_texts.specs.declared.telling.Telling.{Telling}
@@ -33,11 +35,18 @@ pub record AreLintLines (lines : LintLines) : Type 0 where
   pub placed : ArePlaced lines.graph.now lines.linted.now
   pub expressions : AreTexts (bit_text lines.graph.now Avail) (bits lines.graph.now Avail) lines.expressions.texts
   pub openings : lines.starts.openings.items ≡ starts_of proc_form lines.file.text.now
+  pub uses : TellUses lines.uses (uses_told lines.telling lines.graph.now lines.linted.now)
+  pub ways : AreWays lines.telling lines.graph.now lines.linted.now (ways_in lines.ways.items)
+  pub turns : (variable : ℕ) → AreAllTurns lines.graph.now (ways_in lines.ways.items variable)
   pub closings : lines.starts.closings.items ≡ starts_of end_form lines.file.text.now
 
 -- which points are reached, as the answers tell
 abbrev pub reached_in : LintLines → ℕ → Bool
 reached_in lines = (facts_in lines.answers.now.replies Reach).has_path
+
+-- what is known for the lines of lints
+abbrev pub known_in : LintLines → Known
+known_in lines = known_of lines.telling lines.graph.now lines.linted.now (reached_in lines) (ways_in lines.ways.items)
 
 -- They are of this file, this program and these lints.
 pub record AreOf (file : File) (telling : Telling) (program : Program) (answers : Reported) (linted : Linted) (lines : LintLines) : Type 0 where

@@ -11,7 +11,7 @@ pub returns-clause-delivers : goal.returns-clause-delivers
 returns-clause-delivers g c =
     let made = c.in_ok-graph.ensures in
     let asked = c.args.asked in
-    let telling = telling_by asked.request.kinds asked.request.style c.args.procedure in
+    let telling = telling_by asked.request.kinds asked.request.why asked.request.style c.args.procedure in
     told_as _ _ _ _ c.push_graph.result
     (λ what out is. record {
       few_points = made.few_points;

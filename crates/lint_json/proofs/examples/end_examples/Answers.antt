@@ -11,6 +11,14 @@ pub returns-clause-errors : goal.returns-clause-errors
 unfolding digits
 returns-clause-errors c = refl
 
+pub returns-clause-all : goal.returns-clause-all
+unfolding digits
+returns-clause-all c = refl
+
+pub returns-clause-first : goal.returns-clause-first
+unfolding digits
+returns-clause-first c = refl
+
 pub returns-clause-somewhere : goal.returns-clause-somewhere
 unfolding digits
 returns-clause-somewhere c = refl

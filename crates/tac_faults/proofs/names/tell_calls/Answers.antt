@@ -1,6 +1,6 @@
 use Rattle.std.proofs.Common.{◌∙◌, ◌++◌, ap, take, List, [], flat_map}
 use Rattle.tac_faults.proofs.Lists.{told_more}
-use Rattle.tac_faults.specs.Listed.{most_told}
+use Rattle.tac_faults.specs.Listed.{most_found}
 use Rattle.tac_lines.specs.Forms.{callees_of}
 use Rattle.tac_lines.specs.declared.fault.Fault.{Fault}
 use Rattle.tac_lines.specs.declared.refusal.RefusalKind.TheVariants.{DuplicateCallee}
@@ -15,7 +15,7 @@ faults s = flat_map (λ c. repeated DuplicateCallee [] (callees_of c)) (statemen
 pub loop-section-preserved : goal.loop-section-preserved
 loop-section-preserved c =
     let old = c.loop-section.found.items in
-    told_more faults (section_view c.args.text.now) most_told c.args.sections.now c.loop-section.section-index c.section-item.result old
+    told_more faults (section_view c.args.text.now) most_found c.args.sections.now c.loop-section.section-index c.section-item.result old
     c.tell_section_calls.new.found.items _ c.loop-section-test.true
-    (c.in_ok-tell_section_calls.ensures ∙ ap (λ s. take most_told (old ++ faults (section_view c.args.text.now s))) c.section-item.is)
+    (c.in_ok-tell_section_calls.ensures ∙ ap (λ s. take most_found (old ++ faults (section_view c.args.text.now s))) c.section-item.is)
     c.loop-section.invariant

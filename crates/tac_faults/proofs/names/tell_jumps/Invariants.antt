@@ -1,5 +1,5 @@
 use Rattle.std.proofs.Common.{◌≡◌, ◌++◌, drop, flat_map, take}
-use Rattle.tac_faults.specs.Listed.{most_told}
+use Rattle.tac_faults.specs.Listed.{most_found}
 use Rattle.tac_lines.specs.declared.refusal.RefusalKind.TheVariants.{UnknownLabel}
 use Rattle.tac_reader.specs.Faults.{jumps_in, unknown}
 use Rattle.tac_reader.specs.Sections.{labels_in}
@@ -8,8 +8,8 @@ use Rattle.tac_faults.proofs.names.tell_jumps.Given as goal
 
 -- The faults so far and those of the other procedures are all.
 abbrev pub invariant-loop-section : goal.invariant-loop-section
-invariant-loop-section l = take most_told
+invariant-loop-section l = take most_found
     (l.found.items ++ flat_map (λ s. unknown UnknownLabel (labels_in s) (jumps_in s))
     (sections_view l.text (drop l.section-index l.sections)))
-    ≡ take most_told (l.fn.found.items
+    ≡ take most_found (l.fn.found.items
     ++ flat_map (λ s. unknown UnknownLabel (labels_in s) (jumps_in s)) (sections_view l.text l.sections))

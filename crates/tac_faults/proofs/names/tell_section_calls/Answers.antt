@@ -1,6 +1,6 @@
 use Rattle.std.proofs.Common.{◌+◌, ◌∙◌, ◌++◌, ◌<◌, ap, arith, drop, length, map, refl, slice_index_or, sym, take, [], List}
 use Rattle.tac_faults.proofs.Lists.{told_more}
-use Rattle.tac_faults.specs.Listed.{most_told}
+use Rattle.tac_faults.specs.Listed.{most_found}
 use Rattle.tac_lines.specs.Forms.{behind_labels, callees_of}
 use Rattle.tac_lines.specs.Tokens.{Token}
 use Rattle.tac_lines.specs.code.Ranges.{range_view}
@@ -29,9 +29,9 @@ loop-at-preserved c =
     let below : i < length lines = omega (arith, c.loop-at-test.true, c.len-at-end.ensures) in
     let callees = callees_found text c.line_cells.new.found.items c.clear.new.self.items (behind_labels (view (slice_index_or lines i no_line)))
     c.clear.ensures.items (c.in_ok-line_cells.ensures.appended text no_line) in
-    ap (λ r. take most_told (now ++ r)) (sym (by_lines faults refl (map view (drop (i + 1) lines))))
-    ∙ told_more of_line view most_told lines i no_line old now _ below
+    ap (λ r. take most_found (now ++ r)) (sym (by_lines faults refl (map view (drop (i + 1) lines))))
+    ∙ told_more of_line view most_found lines i no_line old now _ below
     (c.in_ok-tell_repeated.ensures
-    ∙ ap (λ ts. take most_told (old ++ repeated DuplicateCallee [] (tokens_view text ts))) c.deref.ensures.value
-    ∙ ap (λ ts. take most_told (old ++ repeated DuplicateCallee [] ts)) callees)
-    (ap (λ r. take most_told (old ++ r)) (by_lines faults refl (map view (drop i lines))) ∙ c.loop-at.invariant)
+    ∙ ap (λ ts. take most_found (old ++ repeated DuplicateCallee [] (tokens_view text ts))) c.deref.ensures.value
+    ∙ ap (λ ts. take most_found (old ++ repeated DuplicateCallee [] ts)) callees)
+    (ap (λ r. take most_found (old ++ r)) (by_lines faults refl (map view (drop i lines))) ∙ c.loop-at.invariant)

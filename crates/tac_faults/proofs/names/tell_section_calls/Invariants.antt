@@ -1,5 +1,5 @@
 use Rattle.std.proofs.Common.{◌≡◌, ◌++◌, [], drop, flat_map, map, take}
-use Rattle.tac_faults.specs.Listed.{most_told}
+use Rattle.tac_faults.specs.Listed.{most_found}
 use Rattle.tac_lines.specs.Forms.{callees_of}
 use Rattle.tac_lines.specs.code.Ranges.{range_view}
 use Rattle.tac_lines.specs.declared.refusal.RefusalKind.TheVariants.{DuplicateCallee}
@@ -10,7 +10,7 @@ use Rattle.tac_faults.proofs.names.tell_section_calls.Given as goal
 
 -- The faults so far and those of the other lines are all.
 abbrev pub invariant-loop-at : goal.invariant-loop-at
-invariant-loop-at l = take most_told (l.found.items ++ flat_map (λ c. repeated DuplicateCallee [] (callees_of c))
+invariant-loop-at l = take most_found (l.found.items ++ flat_map (λ c. repeated DuplicateCallee [] (callees_of c))
     (statements_of (map (range_view l.text l.section.lines.tokens.now) (drop l.at l.section.lines.ranges.now))))
-    ≡ take most_told (l.fn.found.items
+    ≡ take most_found (l.fn.found.items
     ++ flat_map (λ c. repeated DuplicateCallee [] (callees_of c)) (statements_of (lines_view l.text l.section.lines)))

@@ -9,6 +9,9 @@ returns-clause-lines c = record {
   expressions = c.in_ok-expressions.ensures.texts;
   openings = c.in_ok-starts.ensures.openings;
   closings = c.in_ok-starts.ensures.closings;
+  uses = c.in_ok-uses.ensures;
+  ways = c.in_ok-ways.ensures.ways;
+  turns = c.in_ok-ways.ensures.turns;
 }
 
 pub returns-clause-parts : goal.returns-clause-parts

@@ -10,6 +10,6 @@ loop-told-init g c = takes_nothing _
 pub loop-told-preserved : goal.loop-told-preserved
 loop-told-preserved g c =
     takes_as _ _ _ _ (takes_then _ _ _ _ _ c.loop-told.invariant c.write_lines.ensures)
-    (text_more c.args.self.now.told.now c.loop-told.told-index (refusal_lines c.args.self.now.style c.args.self.now.file.now c.args.self.now.text.now) _
+    (text_more c.first_told-all.result.now c.loop-told.told-index (refusal_lines c.args.self.now.style c.args.self.now.file.now c.args.self.now.text.now) _
     c.loop-told-test.true
-    (get_or_default c.args.self.now.told.now c.loop-told.told-index _ _ c.loop-told-test.true))
+    (get_or_default c.first_told-all.result.now c.loop-told.told-index _ _ c.loop-told-test.true))
