@@ -1,14 +1,16 @@
-"""Tries page/make and page/frame.html: the page of each program of examples/, and of some whose
-lines are made here, is opened in a headless Chromium (browser.py) and gone through by keyboard,
-line by line. What it shows is compared with what the lines of JSON say (shown.py): rows, remarks
-and what stands around them, ways step by step, facts before and behind each line, marks, the
-graph. Then filters, searching, links, sizes of windows, contrast, and names that try to be markup.
-A page may log nothing and ask nothing of a network. TACVIEW=/path/to/program takes another program
-than ./tacview, and words are the names of pages that are tried alone. Prints `N passed, M failed`.
+"""Tries the pages of tacview --format html: that of each program of examples/, and some whose lines
+are made here and put into the same frame, are opened in a headless Chromium (browser.py) and gone
+through by keyboard, line by line. What is shown is compared with what tacview --format json says
+(shown.py), with sets in place of what changes: rows, remarks and what stands around them, ways step
+by step, facts before and behind each line, marks, the graph. Then filters, searching, links, sizes
+of windows, contrast, names that try to be markup, and check-c's page of a source in C. A page may
+log nothing and ask nothing of a network. TACVIEW=/path/to/program takes another program than ./tacview, and words are the names of
+pages that are tried alone. Prints `N passed, M failed`.
 `checks/page --time FILE..` tells instead how long pages take to open, and then a key."""
 
 from __future__ import annotations
 
+import functools
 import json
 import os
 import shutil
@@ -17,7 +19,6 @@ import sys
 import tempfile
 import time
 from collections.abc import Callable
-from functools import partial
 
 import browser
 from browser import Browser, Row
@@ -26,8 +27,6 @@ from shown import FORWARD, KINDS, Lines
 HERE = os.path.dirname(os.path.realpath(__file__))
 ROOT = os.path.join(HERE, "..")
 EXAMPLES = os.path.join(ROOT, "examples")
-MAKE = os.path.join(ROOT, "page", "make")
-FRAME = os.path.join(ROOT, "page", "frame.html")
 TACVIEW = os.environ.get("TACVIEW", os.path.join(ROOT, "tacview"))
 
 WIDE = (1400, 3000, 0.1)  # so high that each row of an example is in view
@@ -359,21 +358,36 @@ CHECKS: list[Callable[[Browser, Lines], None]] = [
 ]
 
 
-def made(folder: str, name: str, text: bytes, *words: str) -> str:
-    """The page of some lines."""
-    path = os.path.join(folder, name + ".html")
-    with open(path, "wb") as out:
-        subprocess.run([MAKE, *words], input=text, stdout=out, check=True)
-    return path
+def written(source: bytes, *words: str) -> bytes:
+    """What tacview writes of a program; where it is not proved, it says so on standard error."""
+    done = subprocess.run([TACVIEW, *words], input=source, capture_output=True)
+    assert done.returncode == 0, done.stderr.decode()
+    return done.stdout
+
+
+def page_of(source: bytes, *words: str) -> bytes:
+    return written(source, "--format", "html", *words)
 
 
 def lines_of(source: bytes, *words: str) -> bytes:
-    """What tacview writes of a program; where it is not proved, it says so on standard error."""
-    done = subprocess.run(
-        [TACVIEW, "--format", "json", *words], input=source, capture_output=True
-    )
-    assert done.returncode == 0, done.stderr.decode()
-    return done.stdout
+    return written(source, "--format", "json", *words)
+
+
+@functools.cache
+def frame() -> tuple[bytes, bytes]:
+    """What stands before the lines in a page, and what behind them."""
+    page = page_of(ONE)
+    before, opening, rest = page.partition(b'id="lines">\n')
+    lines, closing, behind = rest.partition(b"</script>")
+    assert opening and closing and lines.endswith(b"}\n"), page[:100]
+    return before + opening, closing + behind
+
+
+def framed(rows: list[Row]) -> bytes:
+    """A page around lines that are made here."""
+    before, behind = frame()
+    lines = "".join(json.dumps(row, separators=(",", ":")) + "\n" for row in rows)
+    return before + lines.replace("<", "\\u003c").encode() + behind
 
 
 def check_page(page: Browser, path: str, text: bytes) -> None:
@@ -455,11 +469,11 @@ end
 
 
 class Page:
-    """One try: its name, its lines, and how it is checked."""
+    """One try: its name, its page, and how it is checked."""
 
-    def __init__(self, name: str, text: Callable[[], bytes], check: Callable[..., None]) -> None:
+    def __init__(self, name: str, make: Callable[[], bytes], check: Callable[..., None]) -> None:
         self.name = name
-        self.text = text
+        self.make = make
         self.check = check
 
 
@@ -479,7 +493,16 @@ def programs() -> list[Page]:
         ("some facts", example("remarks"), ["--facts", "live,avail"]),
         ("no facts", example("recursion"), ["--facts", "none"]),
     ]
-    return [Page(name, partial(lines_of, text, *words), check_page) for name, text, words in tried]
+    return [whole(*each) for each in tried]
+
+
+def whole(name: str, source: bytes, words: list[str]) -> Page:
+    """The page of a program, and what is to be seen in it."""
+
+    def check(page: Browser, path: str) -> None:
+        check_page(page, path, lines_of(source, *words))
+
+    return Page(name, functools.partial(page_of, source, "--title", name, *words), check)
 
 
 HOSTILE = [
@@ -492,21 +515,23 @@ HOSTILE = [
 ]
 
 
-def hostile_lines() -> bytes:
-    """Lines whose names try to be markup."""
+def hostile_page() -> bytes:
+    """A page whose names try to be markup."""
     names = HOSTILE
-    rows: list[Row] = [
-        {"type": "program", "points": len(names) + 1, "procedures": [names[0]], "variables": names}
-        | {"definitions": 2, "expressions": 1}
-    ]
+    definitions = [text for name in names for text in (f"{name}@entry", f"{name}@1")]
+    head: Row = {"type": "program", "points": len(names) + 1, "procedures": [names[0]]}
+    head |= {"variables": names, "definitions": len(definitions), "expressions": len(names)}
+    rows: list[Row] = [{"type": "page", "title": "</title>"}]
+    rows.append(head | {"definition_names": definitions, "expression_names": names})
     for at, name in enumerate([*names, ""]):
         end = at == len(names)
-        facts = {"path": True, "bits": [0], "names": [name, name + "@entry", f"{name}@1"]}
         row: Row = {"type": "point", "point": at, "procedure": names[0], "place": at}
         row |= {"line": None if end else at + 1, "statement": None if end else f"{name} = {name}"}
-        row |= {"labels": [name]}
-        row |= {"edges": [] if end else [{"kind": "step", "to": at + 1}], "reach": facts}
-        rows.append(row | {"live": facts, "avail": facts, "busy": facts})
+        row |= {"labels": [name], "edges": [] if end else [{"kind": "step", "to": at + 1}]}
+        none: Row = {"came": [], "went": []}
+        facts = {"path": True, "came": [] if end else [at], "went": [at - 1] if at else []}
+        facts |= {"behind": None if end else none}
+        rows.append(row | dict.fromkeys(FORWARD, facts))
     for at, name in enumerate(names):
         base = {"type": "remark", "point": at, "line": at + 1}
         hops = [{"kind": "step", "from": each, "to": each + 1} for each in range(at)]
@@ -517,10 +542,10 @@ def hostile_lines() -> bytes:
         rows.append(base | computed | {"holders": names})
         rows.append({"type": "doubt", "point": at, "line": at + 1, "variable": name, "doubt": 0})
     rows.append({"type": "end", "points": len(names) + 1})
-    return "".join(json.dumps(row, separators=(",", ":")) + "\n" for row in rows).encode()
+    return framed(rows)
 
 
-def check_hostile(page: Browser, path: str, text: bytes) -> None:
+def check_hostile(page: Browser, path: str) -> None:
     """Names that try to be markup are texts."""
     with open(path, encoding="utf-8") as file:
         source = file.read()
@@ -550,10 +575,11 @@ def check_hostile(page: Browser, path: str, text: bytes) -> None:
 MANY = 16000
 
 
-def many_lines() -> bytes:
+def many_page() -> bytes:
     """One procedure of very many points, with some of each remark."""
     head: Row = {"type": "program", "points": MANY, "procedures": ["main"], "variables": ["x"]}
-    rows = [head | {"definitions": MANY, "expressions": 1}]
+    head |= {"definitions": 0, "expressions": 0, "definition_names": [], "expression_names": []}
+    rows = [head]
     for at in range(MANY):
         end = at == MANY - 1
         row: Row = {"type": "point", "point": at, "procedure": "main", "place": at}
@@ -563,10 +589,10 @@ def many_lines() -> bytes:
     unset = {"kind": "unset", "variable": "x", "path": hops}
     rows.append({"type": "remark", "point": MANY // 2, "line": MANY // 2 + 2} | unset)
     rows.append({"type": "end", "points": MANY})
-    return "".join(json.dumps(row, separators=(",", ":")) + "\n" for row in rows).encode()
+    return framed(rows)
 
 
-def check_many(page: Browser, path: str, text: bytes) -> None:
+def check_many(page: Browser, path: str) -> None:
     """Of many points only the rows in view are there, and a long way is told in parts."""
     page.faults.clear()
     page.size(1400, 900)
@@ -584,43 +610,80 @@ def check_many(page: Browser, path: str, text: bytes) -> None:
     same("what the page logged or asked for", page.faults, [])
 
 
-def refused(text: bytes, *words: str) -> str:
-    """What page/make says of lines that it refuses, with nothing written."""
-    done = subprocess.run([MAKE, *words], input=text, capture_output=True)
-    wanted = 2 if words else 1
-    assert done.returncode == wanted and not done.stdout, (text, done.returncode)
-    return done.stderr.decode()
+SOURCE = os.path.realpath(os.path.join(ROOT, "frontends", "tests", "notes.c"))
+SETS_SHOWN = """[...document.querySelectorAll("#remarks .remark")].map(box => ({
+  sentence: box.querySelector(".sentence").textContent,
+  notes: [...box.querySelectorAll("[data-set=notes]")].map(note => note.textContent) }))"""
 
 
-def check_make() -> None:
-    """page/make refuses what is no program's lines, in one line, and warns of large pages."""
-    good = b'{"type":"program","points":1}\n'
-    for text, said in [
-        (b"", "standard input is empty"),
-        (b"digraph {\n", "line 1 is not as tacview --format json writes it"),
-        (good + b"{}\n", "line 2 is not as tacview --format json writes it"),
-        (good + b'{"type":"point"', "line 2 was cut short"),
-        (good + b'{"type":"\xff"}\n', "line 2 is not UTF-8"),
-        (good, "line 1 is not the last that tacview writes: lines were cut short"),
-    ]:
-        same("a refusal", refused(text), f"page/make: {said}\n")
-    wrong = refused(good, "--no-such-word")
-    assert "--title TEXT" in wrong and wrong.count("\n") == 1, wrong
-    end = b'{"type":"end","points":1}\n'
-    large = good + b'{"type":"point","x":"' + b"x" * 15_000_000 + b'"}\n' + end
-    done = subprocess.run([MAKE], input=large, capture_output=True)
-    assert done.returncode == 0 and len(done.stdout) > len(large), done.returncode
-    warned = done.stderr
-    assert warned.startswith(b"page/make: 15 MB") and warned.count(b"\n") == 1, warned
+def told_of_source(form: str) -> bytes:
+    """What check-c writes of a source in C."""
+    words = ["--whole", "--kinds", "all", "--format", form, SOURCE]
+    done = subprocess.run(
+        [os.path.join(ROOT, "frontends", "check-c"), *words],
+        capture_output=True,
+        env={**os.environ, "TACVIEW": os.path.realpath(TACVIEW)},
+    )
+    assert done.returncode == 0, done.stderr.decode()
+    return done.stdout
+
+
+def check_source(page: Browser, path: str) -> None:
+    """A source in C: its lines, remarks with their notes, and no graph."""
+    with open(SOURCE, encoding="utf-8") as file:
+        source = file.read().splitlines()
+    told = [json.loads(line) for line in told_of_source("json").splitlines()]
+    wanted: dict[int, list[Row]] = {}
+    for each in told:
+        notes = [f"{note['message']}line {note['line']}" for note in each["notes"]]
+        sentence = f"{each['message']} [tacflow-{each['kind']}]"
+        wanted.setdefault(each["line"], []).append({"sentence": sentence, "notes": notes})
+    page.faults.clear()
+    page.size(*WIDE)
+    page.open(path)
+    rows: list[Row] = page.evaluate(ROWS)
+    same("lines", [row["text"] for row in rows], [line.strip() for line in source])
+    same("their numbers", [int(row["line"]) for row in rows], list(range(1, len(source) + 1)))
+    page.press("End")
+    for line, remarks in wanted.items():
+        page.press("n")
+        same("the next remark", chosen(page), line - 1)
+        same("remarks", page.evaluate(SETS_SHOWN), remarks)
+    counted = f"{SOURCE} ({len(told)})"
+    same("remarks of a file", page.evaluate("document.querySelector('option').text"), counted)
+    page.press("g")
+    same("the graph", page.evaluate("document.getElementById('graph').checkVisibility()"), False)
+    same("faint texts", page.evaluate(FAINT), [])
+    page.size(420, 800)
+    same("the width", page.evaluate("document.documentElement.scrollWidth"), 420)
+    same("what the page logged or asked for", page.faults, [])
+
+
+# One statement that makes a page of some 250 bytes, so that of these many the page is a large one.
+LARGE = b"proc main\n" + b"x = y\n" * 80_000 + b"end\n"
+
+
+def check_written() -> None:
+    """A title is one line of the page; of a large page a line on standard error tells; and a page
+    that can't be written is a fault."""
+    page = page_of(ONE, "--title", 'a "b" \\ </script>\n\u00e4')
+    wanted = '{"type":"page","title":"a \\"b\\" \\\\ \\u003c/script> \u00e4"}\n'
+    assert page.count(wanted.encode()) == 1, page[:100]
+    words = ["--format", "html", "--facts", "none", "--limits", "large"]
+    done = subprocess.run([TACVIEW, *words], input=LARGE, capture_output=True)
+    size, warned = len(done.stdout) // 1_000_000, done.stderr.splitlines(keepends=True)
+    assert done.returncode == 0 and size >= 15, size
+    said = f"tacview: {size} MB, a page that takes seconds to open: "
+    said += "--procedure NAME shows one procedure, --facts LIST fewer facts\n"
+    same("a large page", warned[-1].decode(), said)
     with open("/dev/full", "wb") as full:
-        done = subprocess.run([MAKE], input=good + end, stdout=full, stderr=subprocess.PIPE)
-    assert done.returncode == 1 and done.stderr.count(b"\n") == 1, done.stderr
+        done = subprocess.run([TACVIEW, *words], input=ONE, stdout=full, stderr=subprocess.PIPE)
+    assert done.returncode == 1 and done.stderr.endswith(b"tacview: write fault\n"), done.stderr
 
 
 def check_script(folder: str) -> None:
     """The frame's script is one that node reads, in strict mode, and writes no markup."""
-    with open(FRAME, encoding="utf-8") as file:
-        script = file.read().rpartition("<script>")[2].partition("</script>")[0]
+    script = frame()[1].decode().rpartition("<script>")[2].partition("</script>")[0]
     assert script.lstrip().startswith('"use strict";')
     for word in ("innerHTML", "outerHTML", "insertAdjacentHTML", "document.write", "eval("):
         assert word not in script, word
@@ -643,21 +706,25 @@ def attempt(name: str, check: Callable[[], None]) -> bool:
 
 
 def try_page(page: Browser, folder: str, each: Page) -> None:
-    text = each.text()
-    title = "</title>" if each.name == "hostile" else each.name
-    each.check(page, made(folder, each.name, text, "--title", title), text)
+    path = os.path.join(folder, each.name + ".html")
+    with open(path, "wb") as out:
+        out.write(each.make())
+    each.check(page, path)
 
 
 def tries(words: list[str], folder: str, page: Browser) -> list[tuple[str, Callable[[], None]]]:
     """All that is tried, or those of some names."""
     pages = programs()
-    pages.append(Page("hostile", hostile_lines, check_hostile))
-    pages.append(Page("many", many_lines, check_many))
+    pages.append(Page("hostile", hostile_page, check_hostile))
+    pages.append(Page("many", many_page, check_many))
+    if shutil.which("gcc"):
+        pages.append(Page("C", functools.partial(told_of_source, "html"), check_source))
 
     found: list[tuple[str, Callable[[], None]]] = [
-        (each.name, partial(try_page, page, folder, each)) for each in pages
+        (each.name, functools.partial(try_page, page, folder, each)) for each in pages
     ]
-    found += [("page/make", check_make), ("the script", partial(check_script, folder))]
+    found.append(("what is written", check_written))
+    found.append(("the script", functools.partial(check_script, folder)))
     return [each for each in found if not words or each[0] in words]
 
 
