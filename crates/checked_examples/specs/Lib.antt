@@ -1,3 +1,4 @@
+pub mod LineLaws
 pub mod ProgramExamples
 pub mod ReaderExamples
 pub mod WorkedTexts

@@ -12,14 +12,14 @@ all_chosen = record { reach = true; live = true; avail = true; busy = true }
 
 -- facts before statements alone, with the dummy definitions
 abbrev pub plain_look : Look
-plain_look = record { hides_entry = false; behind = false }
+plain_look = record { hides_entry = false; behind = false; hovers = false; legend = false }
 
 -- facts behind statements too, with the dummy definitions and without them
 abbrev pub with_entry : Look
-with_entry = record { hides_entry = false; behind = true }
+with_entry = record { hides_entry = false; behind = true; hovers = false; legend = false }
 
 abbrev pub without_entry : Look
-without_entry = record { hides_entry = true; behind = true }
+without_entry = record { hides_entry = true; behind = true; hovers = false; legend = false }
 
 -- all procedures, with facts behind statements
 abbrev pub behind_with_entry : View
@@ -43,3 +43,7 @@ first_alone = record { facts = nothing_chosen; procedure = Some 0; look = plain_
 -- all procedures, without facts
 abbrev pub plain : View
 plain = record { facts = nothing_chosen; procedure = None; look = plain_look }
+
+-- reaching definitions and live variables in tooltips
+abbrev pub hovering : View
+hovering = record { facts = record { reach = true; live = true; avail = false; busy = false }; procedure = None; look = record plain_look { hovers = true } }

@@ -1,14 +1,15 @@
 //! Both texts over facts that are written out by hand, checked by computing them.
 
-ghost use Rattle.std.specs.Prelude.{◌≡◌, ◌++◌, [], flat_map, codes};
+ghost use Rattle.std.specs.Prelude.{◌≡◌, ◌++◌, [], ◌∷◌, flat_map, codes};
 ghost use Rattle.checked_examples.specs.ProgramExamples.{adds_to_itself, calls_endless, calls_itself};
 ghost use Rattle.checked_examples.specs.WorkedTexts.{known_of_endless_callee, known_of_sum};
-ghost use Rattle.flow_views.specs.Dots.{cluster, dot_of, edge_lines, label_line, label_lines};
+ghost use Rattle.flow_views.specs.Dots.{cluster, dot_of, edge_lines, label_text, node};
+ghost use Rattle.point_sets.specs.SetLines.{set_lines};
 ghost use Rattle.flow_views.specs.Json.{json_of};
 ghost use Rattle.text_pieces.specs.Strings.{escaped, quoted};
 ghost use Rattle.flow_views.specs.Views.{shown_points};
-ghost use Rattle.checked_examples.specs.WorkedViews.{behind_with_entry, behind_without_entry, first_alone, plain, reach_and_live};
-ghost use Rattle.checked_examples.specs.WorkedViews.{second_alone};
+ghost use Rattle.checked_examples.specs.WorkedViews.{behind_with_entry, behind_without_entry, first_alone, hovering, plain};
+ghost use Rattle.checked_examples.specs.WorkedViews.{reach_and_live, second_alone};
 
 /// A quote and a backslash have a backslash before them, and nothing else has.
 pub fn string_examples()
@@ -22,55 +23,83 @@ pub fn string_examples()
 pub fn dot_examples()
     ensures marks { dot_of adds_to_itself known_of_sum reach_and_live
         ≡ codes "digraph \"tacflow\" {\n  graph [fontname=\"monospace\", labeljust=l];\n"
-        ++ codes "  node [shape=box, fontname=\"monospace\", fontsize=11];\n  edge [fontname=\"monospace\", fontsize=10];\n"
-        ++ codes "  subgraph \"cluster_0\" {\n    label=\"main\";\n"
-        ++ codes "    0 [label=\"2: x = x + y\\lx may be used before it is set\\ly may be used before it is set\\lassignment to x is "
+        ++ codes "  node [shape=box, fontname=\"monospace\", fontsize=11];\n  edge [class=\"step\", fontname=\"monospace\", fontsize=10];\n"
+        ++ codes "  subgraph \"cluster_0\" {\n    id=\"procedure0\";\n    class=\"procedure\";\n    label=\"main\";\n"
+        ++ codes "    0 [id=\"point0\", class=\"point unset dead\", label=\"2: x = x + y\\lx may be used before it is set\\l"
+        ++ codes "y may be used before it is set\\lassignment to x is "
         ++ codes "dead\\lreach: x@entry, y@entry\\llive: x, y\\l\", color=red, fontcolor=red, style=filled, fillcolor=khaki];\n"
-        ++ codes "    1 [label=\"end of main\\lreach: y@entry, x@2\\llive: -\\l\"];\n  }\n  0 -> 1;\n}\n" }
+        ++ codes "    1 [id=\"point1\", class=\"point\", label=\"end of main\\lreach: y@entry, x@2\\llive: -\\l\"];\n  }\n  0 -> 1;\n}\n" }
     ensures endless { dot_of calls_endless known_of_endless_callee plain
         ≡ codes "digraph \"tacflow\" {\n  graph [fontname=\"monospace\", labeljust=l];\n"
-        ++ codes "  node [shape=box, fontname=\"monospace\", fontsize=11];\n  edge [fontname=\"monospace\", fontsize=10];\n"
-        ++ codes "  subgraph \"cluster_0\" {\n    label=\"main\";\n    0 [label=\"2: call f\\l\", peripheries=2];\n"
-        ++ codes "    1 [label=\"3: a = b + c\\lnever reached\\l\", style=filled, fillcolor=grey80];\n"
-        ++ codes "    2 [label=\"end of main\\l\", style=filled, fillcolor=grey80];\n  }\n  subgraph \"cluster_1\" {\n    label=\"f\";\n"
-        ++ codes "    3 [label=\"L:\\l6: goto L\\l\", peripheries=2];\n    4 [label=\"end of f\\l\", style=filled, fillcolor=grey80];\n  }\n"
-        ++ codes "  0 -> 3 [style=dashed, color=grey60, fontcolor=grey40, constraint=false, xlabel=\"call 2\"];\n"
-        ++ codes "  0 -> 1 [style=dotted, arrowhead=none];\n  1 -> 2;\n  3 -> 3;\n"
-        ++ codes "  4 -> 1 [style=dashed, color=grey60, fontcolor=grey40, constraint=false, xlabel=\"return 2\"];\n}\n" }
+        ++ codes "  node [shape=box, fontname=\"monospace\", fontsize=11];\n  edge [class=\"step\", fontname=\"monospace\", fontsize=10];\n"
+        ++ codes "  subgraph \"cluster_0\" {\n    id=\"procedure0\";\n    class=\"procedure\";\n    label=\"main\";\n"
+        ++ codes "    0 [id=\"point0\", class=\"point doubtful\", label=\"2: call f\\l\", peripheries=2];\n"
+        ++ codes "    1 [id=\"point1\", class=\"point unreached\", label=\"3: a = b + c\\lnever reached\\l\", style=filled, fillcolor=grey80];\n"
+        ++ codes "    2 [id=\"point2\", class=\"point unreached\", label=\"end of main\\l\", style=filled, fillcolor=grey80];\n  }\n"
+        ++ codes "  subgraph \"cluster_1\" {\n    id=\"procedure1\";\n    class=\"procedure\";\n    label=\"f\";\n"
+        ++ codes "    3 [id=\"point3\", class=\"point doubtful\", label=\"L:\\l6: goto L\\l\", peripheries=2];\n"
+        ++ codes "    4 [id=\"point4\", class=\"point unreached\", label=\"end of f\\l\", style=filled, fillcolor=grey80];\n  }\n"
+        ++ codes "  0 -> 3 [class=\"call\", style=dashed, color=grey60, fontcolor=grey40, constraint=false, xlabel=\"call 2\"];\n"
+        ++ codes "  0 -> 1 [class=\"passed\", style=dotted, arrowhead=none];\n  1 -> 2;\n  3 -> 3;\n"
+        ++ codes "  4 -> 1 [class=\"return\", style=dashed, color=grey60, fontcolor=grey40, constraint=false, xlabel=\"return 2\"];\n}\n" }
     ensures first { dot_of calls_endless known_of_endless_callee first_alone
         ≡ codes "digraph \"tacflow\" {\n  graph [fontname=\"monospace\", labeljust=l];\n"
-        ++ codes "  node [shape=box, fontname=\"monospace\", fontsize=11];\n  edge [fontname=\"monospace\", fontsize=10];\n"
-        ++ codes "  subgraph \"cluster_0\" {\n    label=\"main\";\n    0 [label=\"2: call f\\l\", peripheries=2];\n"
-        ++ codes "    1 [label=\"3: a = b + c\\lnever reached\\l\", style=filled, fillcolor=grey80];\n"
-        ++ codes "    2 [label=\"end of main\\l\", style=filled, fillcolor=grey80];\n  }\n  0 -> 1 [style=dotted, arrowhead=none];\n"
+        ++ codes "  node [shape=box, fontname=\"monospace\", fontsize=11];\n  edge [class=\"step\", fontname=\"monospace\", fontsize=10];\n"
+        ++ codes "  subgraph \"cluster_0\" {\n    id=\"procedure0\";\n    class=\"procedure\";\n    label=\"main\";\n"
+        ++ codes "    0 [id=\"point0\", class=\"point doubtful\", label=\"2: call f\\l\", peripheries=2];\n"
+        ++ codes "    1 [id=\"point1\", class=\"point unreached\", label=\"3: a = b + c\\lnever reached\\l\", style=filled, fillcolor=grey80];\n"
+        ++ codes "    2 [id=\"point2\", class=\"point unreached\", label=\"end of main\\l\", style=filled, fillcolor=grey80];\n  }\n"
+        ++ codes "  0 -> 1 [class=\"passed\", style=dotted, arrowhead=none];\n"
         ++ codes "  1 -> 2;\n}\n" }
     ensures recursive { flat_map (edge_lines calls_itself second_alone) (shown_points calls_itself second_alone)
         ≡ codes "  4 -> 5 [label=\"F\"];\n  4 -> 7 [label=\"T\"];\n"
-        ++ codes "  5 -> 4 [style=dashed, color=grey60, fontcolor=grey40, constraint=false, xlabel=\"call 8\"];\n"
-        ++ codes "  5 -> 6 [style=dotted, arrowhead=none];\n  6 -> 7;\n"
-        ++ codes "  7 -> 6 [style=dashed, color=grey60, fontcolor=grey40, constraint=false, xlabel=\"return 8\"];\n" }
+        ++ codes "  5 -> 4 [class=\"call\", style=dashed, color=grey60, fontcolor=grey40, constraint=false, xlabel=\"call 8\"];\n"
+        ++ codes "  5 -> 6 [class=\"passed\", style=dotted, arrowhead=none];\n  6 -> 7;\n"
+        ++ codes "  7 -> 6 [class=\"return\", style=dashed, color=grey60, fontcolor=grey40, constraint=false, xlabel=\"return 8\"];\n" }
 {}
 
 /// Facts on both sides of a statement: with the dummy definitions; and without them, in whole clusters, where a call has none behind it, nothing
 /// leads to a statement, or a loop leads to itself.
 pub fn behind_examples()
-    ensures sum { flat_map label_line (label_lines adds_to_itself known_of_sum behind_with_entry 0)
+    ensures sum { label_text adds_to_itself known_of_sum behind_with_entry 0
         ≡ codes "2: x = x + y\\lx may be used before it is set\\ly may be used before it is set\\lassignment to x is dead\\l"
         ++ codes "reach: x@entry, y@entry\\lreach behind: y@entry, x@2\\llive: x, y\\llive behind: -\\l"
         ++ codes "avail: -\\lavail behind: -\\lbusy: x + y\\lbusy behind: -\\l" }
-    ensures hidden { flat_map label_line (label_lines adds_to_itself known_of_sum behind_without_entry 1)
+    ensures hidden { label_text adds_to_itself known_of_sum behind_without_entry 1
         ≡ codes "end of main\\lreach: x@2\\llive: -\\lavail: -\\lbusy: -\\l" }
     ensures caller { cluster calls_endless known_of_endless_callee behind_without_entry 0
-        ≡ codes "  subgraph \"cluster_0\" {\n    label=\"main\";\n"
-        ++ codes "    0 [label=\"2: call f\\lreach: -\\llive: -\\lavail: -\\lbusy: b + c\\l\", peripheries=2];\n"
-        ++ codes "    1 [label=\"3: a = b + c\\lnever reached\\lreach: -\\lreach behind: -\\llive: b, c\\llive behind: -\\l"
+        ≡ codes "  subgraph \"cluster_0\" {\n    id=\"procedure0\";\n    class=\"procedure\";\n    label=\"main\";\n"
+        ++ codes "    0 [id=\"point0\", class=\"point doubtful\", label=\"2: call f\\lreach: -\\llive: -\\lavail: -\\lbusy: b + c\\l"
+        ++ codes "\", peripheries=2];\n"
+        ++ codes "    1 [id=\"point1\", class=\"point unreached\", label=\"3: a = b + c\\lnever reached\\lreach: -\\lreach behind: -\\l"
+        ++ codes "live: b, c\\llive behind: -\\l"
         ++ codes "avail: b + c\\lavail behind: b + c\\lbusy: b + c\\lbusy behind: -\\l\", style=filled, fillcolor=grey80];\n"
-        ++ codes "    2 [label=\"end of main\\lreach: -\\llive: -\\lavail: b + c\\lbusy: -\\l\", style=filled, fillcolor=grey80];\n  }\n" }
+        ++ codes "    2 [id=\"point2\", class=\"point unreached\", label=\"end of main\\lreach: -\\llive: -\\lavail: b + c\\lbusy: -\\l"
+        ++ codes "\", style=filled, fillcolor=grey80];\n  }\n" }
     ensures callee { cluster calls_endless known_of_endless_callee behind_without_entry 1
-        ≡ codes "  subgraph \"cluster_1\" {\n    label=\"f\";\n"
-        ++ codes "    3 [label=\"L:\\l6: goto L\\lreach: -\\lreach behind: -\\llive: -\\llive behind: -\\l"
+        ≡ codes "  subgraph \"cluster_1\" {\n    id=\"procedure1\";\n    class=\"procedure\";\n    label=\"f\";\n"
+        ++ codes "    3 [id=\"point3\", class=\"point doubtful\", label=\"L:\\l6: goto L\\lreach: -\\lreach behind: -\\llive: -\\l"
+        ++ codes "live behind: -\\l"
         ++ codes "avail: -\\lavail behind: -\\lbusy: b + c\\lbusy behind: b + c\\l\", peripheries=2];\n"
-        ++ codes "    4 [label=\"end of f\\lreach: -\\llive: b, c\\lavail: b + c\\lbusy: b + c\\l\", style=filled, fillcolor=grey80];\n  }\n" }
+        ++ codes "    4 [id=\"point4\", class=\"point unreached\", label=\"end of f\\lreach: -\\llive: b, c\\lavail: b + c\\l"
+        ++ codes "busy: b + c\\l\", style=filled, fillcolor=grey80];\n  }\n" }
+{}
+
+/// Sets in lines: a name that ends where a line does with its comma, one sign more, a name that is longer than a line, and no names.
+pub fn line_examples()
+    ensures full { set_lines (codes "live: ") (codes "aaaaaaaaaaaaaaaaaaaaaaaa" ∷ codes "bbbbbbbbbbbbbbbbbbbbbbbbbbb" ∷ codes "c" ∷ [])
+        ≡ codes "live: aaaaaaaaaaaaaaaaaaaaaaaa, bbbbbbbbbbbbbbbbbbbbbbbbbbb," ∷ codes "  c" ∷ [] }
+    ensures one_more { set_lines (codes "live: ") (codes "aaaaaaaaaaaaaaaaaaaaaaaa" ∷ codes "bbbbbbbbbbbbbbbbbbbbbbbbbbbb" ∷ codes "c" ∷ [])
+        ≡ codes "live: aaaaaaaaaaaaaaaaaaaaaaaa," ∷ codes "  bbbbbbbbbbbbbbbbbbbbbbbbbbbb, c" ∷ [] }
+    ensures long { set_lines (codes "live: ") (codes "a" ∷ codes "dddddddddddddddddddddddddddddddddddddddddddddddddddddddddddddddd" ∷ codes "e" ∷ [])
+        ≡ codes "live: a," ∷ codes "  dddddddddddddddddddddddddddddddddddddddddddddddddddddddddddddddd," ∷ codes "  e" ∷ [] }
+    ensures none { set_lines (codes "live: ") [] ≡ codes "live: -" ∷ [] }
+{}
+
+/// Facts that stand in a tooltip, and not in the node.
+pub fn hover_examples()
+    ensures { node adds_to_itself known_of_sum hovering 1
+        ≡ codes "    1 [id=\"point1\", class=\"point\", label=\"end of main\\l\", tooltip=\"reach: y@entry, x@2\\llive: -\\l\"];\n" }
 {}
 
 /// Lines of JSON: sets and remarks; one procedure of two, and the other.

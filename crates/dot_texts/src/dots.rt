@@ -1,39 +1,42 @@
 // The text for Graphviz.
 
-ghost use Rattle.std.specs.Prelude.{◌≡◌, ◌++◌, ◌<◌, ◌≤◌, ◌&&◌, true, All, None, Some, flat_map, length, if◌then◌else◌, IfOk, IfSome, codes, decimal};
+ghost use Rattle.std.specs.Prelude.{◌≡◌, ◌++◌, ◌<◌, ◌≤◌, ◌&&◌, true, All, None, Some, flat_map, length, map, not, if◌then◌else◌, IfOk, IfSome, codes, decimal};
 ghost use Rattle.flow_graph.specs.Analyses.{main_procedure};
 ghost use Rattle.flow_graph.specs.Points.{point_count, procedure_at, statement_at};
 ghost use Rattle.text_pieces.specs.Pieces.{CanWrite, Writes};
-ghost use Rattle.flow_reports.specs.Reports.{dead_at, remark_text, unset_at};
-ghost use Rattle.flow_reports.specs.code.Reported.{TellReport};
+ghost use Rattle.flow_reports.specs.Reports.{remark_text};
+ghost use Rattle.report_answers.specs.code.Reported.{TellReport};
 ghost use Rattle.flow_texts.specs.Tables.{line_at};
 ghost use Rattle.tac_listing.specs.Listings.{statement_text};
 ghost use Rattle.flow_views.specs.ViewTables.{AreViewTables};
 ghost use Rattle.flow_views.specs.code.ViewProgram.{AreShown, AreShownProcedures, IsShownPoint, IsShownProcedure, IsShownTable, IsEndIn};
 ghost use Rattle.flow_views.specs.code.ViewProgram.{known_of, numbers_of};
 ghost use Rattle.flow_views.specs.declared.names.NameForm.TheVariants.{Escaped};
-ghost use Rattle.flow_views.specs.Dots.{IsDot, across, all_clusters, arrow, behind_if, cluster, edge_line, edge_lines, fact_line, fact_lines, head};
-ghost use Rattle.flow_views.specs.Dots.{is_edge_shown, label_line, label_lines, label_title, marks, node, open_dot, outcome_label, outcome_mark, passed_call};
-ghost use Rattle.flow_views.specs.Dots.{path_marks, set_text, shown_clusters, shown_edge, text_if_some, title};
+ghost use Rattle.flow_views.specs.Dots.{IsDot, across, all_clusters, arrow, behind_if, cluster, edge_line, edge_lines, fact_lines, facts_in_lines, head};
+ghost use Rattle.flow_views.specs.Dots.{is_edge_shown, label_line, label_text, label_title, lines_on, node, node_body, open_dot, outcome_label};
+ghost use Rattle.flow_views.specs.Dots.{outcome_mark, passed_call, set_names, shown_clusters, shown_edge, text_if, title, tooltip};
+ghost use Rattle.point_sets.specs.SetLines.{columns};
 ghost use Rattle.point_sets.specs.Sets.{has_behind};
+ghost use Rattle.point_sets.specs.code.Lines.{set_from};
 ghost use Rattle.point_sets.specs.declared.side.Side.TheVariants.{Behind};
 ghost use Rattle.text_pieces.specs.Strings.{escaped};
-ghost use Rattle.flow_views.specs.Views.{analysis_if, chosen_analyses, names_at, outcome, procedure_name, is_chosen};
+ghost use Rattle.flow_views.specs.Views.{analysis_if, names_at, outcome, procedure_name, is_chosen};
 
 use crate::OutOfMemory;
+use crate::legend::write_legend;
+use crate::marks::{write_look, write_node_names};
 use flow_graph::{Analysis, Edge, Graph};
-use flow_reports::{
-    Findings, Remark, RemarkForm, ReportAnswers, words_before_name, words_behind_name,
-};
+use flow_reports::{Findings, Remark, RemarkForm, words_before_name, words_behind_name};
 use flow_team::Table;
 use flow_texts::{line, write_number};
 use flow_views::{NameForm, Numbers, PointForm, View, ViewProgram, ViewTables, analysis_name};
 use point_sets::{PointSet, Side, calls_at, has_behind, side_text, target_of, write_point_set};
+use report_answers::ReportAnswers;
 use std::alloc::Global;
 use std::marker::Model;
 use tac_listing::write_escaped_number;
 use tac_program::{Label, Stmt};
-use text_pieces::{Pieces, Sink, Text, write_escaped, write_if, write_quoted};
+use text_pieces::{Pieces, Sink, Text, write_escaped, write_quoted};
 
 // A remark as a line of a label.
 #[derive(Clone, Copy)]
@@ -67,10 +70,6 @@ fn write_arrow<K: Sink>(out: &mut Pieces<'_, K>, source: u32, target: u32)
     write_number(out, target);
 }
 
-// What an edge between procedures looks like, up to its word.
-const ACROSS: &[u8] =
-    b" [style=dashed, color=grey60, fontcolor=grey40, constraint=false, xlabel=\"";
-
 // Writes what the text begins with.
 fn write_head<K: Sink>(out: &mut Pieces<'_, K>)
     requires { CanWrite K.Sink out.old }
@@ -79,7 +78,7 @@ fn write_head<K: Sink>(out: &mut Pieces<'_, K>)
     out.write(b"digraph \"tacflow\" {\n");
     out.write(b"  graph [fontname=\"monospace\", labeljust=l];\n");
     out.write(b"  node [shape=box, fontname=\"monospace\", fontsize=11];\n");
-    out.write(b"  edge [fontname=\"monospace\", fontsize=10];\n");
+    out.write(b"  edge [class=\"step\", fontname=\"monospace\", fontsize=10];\n");
 }
 
 // Writes how a test comes out, as the label of an edge.
@@ -171,13 +170,14 @@ fn write_title<K: Sink>(shown: &ViewProgram<'_>, out: &mut Pieces<'_, K>, point:
     }
 }
 
-// Writes the set of an analysis on a side of a statement.
+// Writes the set of an analysis on a side of a statement, behind so many signs of its first line.
 fn write_set_on<K: Sink>(
     shown: &ViewProgram<'_>,
     out: &mut Pieces<'_, K>,
     table: &Table,
     point: u32,
     side: Side,
+    column: usize,
 )
     requires ready { CanWrite K.Sink out.old }
     requires shown { AreShown shown.now }
@@ -186,8 +186,9 @@ fn write_set_on<K: Sink>(
     requires point { point < point_count shown.now.found.graph.now }
     requires shows { IsShownPoint shown.now point }
     requires side { side ≡ Behind → has_behind shown.now.found.graph.now point ≡ true }
-    ensures { Writes K.Sink out.old out.new
-        (escaped (set_text shown.now.found.graph.now (known_of shown.now) shown.now.view point table.now.analysis side)) }
+    requires column { column < columns }
+    ensures { Writes K.Sink out.old out.new (set_from column
+        (map escaped (set_names shown.now.found.graph.now (known_of shown.now) shown.now.view point table.now.analysis side))) }
 {
     let set = PointSet {
         graph: shown.found.graph,
@@ -197,11 +198,11 @@ fn write_set_on<K: Sink>(
         side,
         hides_entry: shown.view.look.hides_entry,
     };
-    write_point_set(out, shown.names(table.analysis()), &set);
+    write_point_set(out, shown.names(table.analysis()), &set, column);
 }
 
-// Writes it as a line.
-fn write_fact_line<K: Sink>(
+// Writes it in lines.
+fn write_lines_on<K: Sink>(
     shown: &ViewProgram<'_>,
     out: &mut Pieces<'_, K>,
     table: &Table,
@@ -216,11 +217,20 @@ fn write_fact_line<K: Sink>(
     requires shows { IsShownPoint shown.now point }
     requires side { side ≡ Behind → has_behind shown.now.found.graph.now point ≡ true }
     ensures { Writes K.Sink out.old out.new
-        (label_line (fact_line shown.now.found.graph.now (known_of shown.now) shown.now.view point table.now.analysis side)) }
+        (flat_map label_line (lines_on shown.now.found.graph.now (known_of shown.now) shown.now.view point table.now.analysis side)) }
 {
-    write_escaped(out, analysis_name(table.analysis()));
-    write_escaped(out, side_text(side));
-    write_set_on(shown, out, table, point, side);
+    let name = analysis_name(table.analysis());
+    let behind_name = side_text(side);
+    out.write(name);
+    out.write(behind_name);
+    write_set_on(
+        shown,
+        out,
+        table,
+        point,
+        side,
+        name.len() + behind_name.len(),
+    );
     out.write(b"\\l");
 }
 
@@ -246,13 +256,13 @@ fn write_behind_if<K: Sink>(
     requires point { point < point_count shown.now.found.graph.now }
     requires shows { IsShownPoint shown.now point }
     ensures { Writes K.Sink out.old out.new
-        (flat_map (λ s. label_line (fact_line shown.now.found.graph.now (known_of shown.now) shown.now.view point table.now.analysis s))
+        (flat_map (λ s. flat_map label_line (lines_on shown.now.found.graph.now (known_of shown.now) shown.now.view point table.now.analysis s))
         (behind_if (shown.now.view.look.behind && has_behind shown.now.found.graph.now point))) }
 {
     if !shows_behind(shown, point) {
         return;
     }
-    write_fact_line(shown, out, table, point, Side::Behind);
+    write_lines_on(shown, out, table, point, Side::Behind);
 }
 
 // Writes what an analysis tells at a point, where it is chosen.
@@ -274,7 +284,7 @@ fn write_fact_if<K: Sink>(
     let Some(table) = shown.table(analysis) else {
         return;
     };
-    write_fact_line(shown, out, table, point, Side::Before);
+    write_lines_on(shown, out, table, point, Side::Before);
     write_behind_if(shown, out, table, point);
 }
 
@@ -285,13 +295,27 @@ fn write_facts<K: Sink>(shown: &ViewProgram<'_>, out: &mut Pieces<'_, K>, point:
     requires form { shown.now.names.form ≡ Escaped }
     requires point { point < point_count shown.now.found.graph.now }
     requires shows { IsShownPoint shown.now point }
-    ensures { Writes K.Sink out.old out.new
-        (flat_map (λ a. flat_map label_line (fact_lines shown.now.found.graph.now (known_of shown.now) shown.now.view point a))
-        (chosen_analyses shown.now.view.facts)) }
+    ensures { Writes K.Sink out.old out.new (facts_in_lines shown.now.found.graph.now (known_of shown.now) shown.now.view point) }
 {
     for analysis in Analysis::ALL {
         write_fact_if(shown, out, point, analysis);
     }
+}
+
+// Writes the facts of a point where they stand in its node.
+fn write_label_facts<K: Sink>(shown: &ViewProgram<'_>, out: &mut Pieces<'_, K>, point: u32)
+    requires ready { CanWrite K.Sink out.old }
+    requires shown { AreShown shown.now }
+    requires form { shown.now.names.form ≡ Escaped }
+    requires point { point < point_count shown.now.found.graph.now }
+    requires shows { IsShownPoint shown.now point }
+    ensures { Writes K.Sink out.old out.new
+        (text_if (not shown.now.view.look.hovers) (facts_in_lines shown.now.found.graph.now (known_of shown.now) shown.now.view point)) }
+{
+    if shown.view.look.hovers {
+        return;
+    }
+    write_facts(shown, out, point);
 }
 
 // Writes the lines of a node.
@@ -301,63 +325,48 @@ fn write_label<K: Sink>(shown: &ViewProgram<'_>, out: &mut Pieces<'_, K>, point:
     requires form { shown.now.names.form ≡ Escaped }
     requires point { point < point_count shown.now.found.graph.now }
     requires shows { IsShownPoint shown.now point }
-    ensures { Writes K.Sink out.old out.new
-        (flat_map label_line (label_lines shown.now.found.graph.now (known_of shown.now) shown.now.view point)) }
+    ensures { Writes K.Sink out.old out.new (label_text shown.now.found.graph.now (known_of shown.now) shown.now.view point) }
 {
     write_label_lines(shown, out, point, shown.labels(point));
     write_title(shown, out, point);
     out.write(b"\\l");
     shown.write_remarks_at(&DotLine, out, point);
-    write_facts(shown, out, point);
+    write_label_facts(shown, out, point);
 }
 
-// Writes the marks of a statement that is reached.
-fn write_statement_marks<K: Sink>(
-    shown: &ViewProgram<'_>,
-    out: &mut Pieces<'_, K>,
-    point: u32,
-    stmt: &Stmt,
-)
+// Writes the facts of a point where they stand in its tooltip.
+fn write_tooltip<K: Sink>(shown: &ViewProgram<'_>, out: &mut Pieces<'_, K>, point: u32)
     requires ready { CanWrite K.Sink out.old }
     requires shown { AreShown shown.now }
+    requires form { shown.now.names.form ≡ Escaped }
     requires point { point < point_count shown.now.found.graph.now }
-    requires statement { statement_at shown.now.found.graph.now point ≡ Some stmt.now }
-    ensures { Writes K.Sink out.old out.new
-        (text_if_some (unset_at shown.now.found.graph.now (known_of shown.now) point) (codes ", color=red, fontcolor=red")
-        ++ text_if_some (dead_at shown.now.found.graph.now (known_of shown.now) point) (codes ", style=filled, fillcolor=khaki")) }
+    requires shows { IsShownPoint shown.now point }
+    ensures { Writes K.Sink out.old out.new (tooltip shown.now.found.graph.now (known_of shown.now) shown.now.view point) }
 {
-    let unset = shown.reads_unset(point, &stmt.kind);
-    write_if(out, unset, b", color=red, fontcolor=red");
-    let dead = shown.sets_dead(point, &stmt.kind);
-    write_if(out, dead, b", style=filled, fillcolor=khaki");
-}
-
-// Writes the marks of a point by its valid paths.
-fn write_path_marks<K: Sink>(shown: &ViewProgram<'_>, out: &mut Pieces<'_, K>, point: u32)
-    requires ready { CanWrite K.Sink out.old }
-    requires shown { AreShown shown.now }
-    requires point { point < point_count shown.now.found.graph.now }
-    ensures { Writes K.Sink out.old out.new (path_marks shown.now.found.graph.now (known_of shown.now) point) }
-{
-    if !shown.found.is_reached(point) {
-        out.write(b", style=filled, fillcolor=grey80");
+    if !shown.view.look.hovers {
         return;
     }
-    match shown.found.graph.stmt(point) {
-        Some(stmt) => write_statement_marks(shown, out, point, stmt),
-        None => {},
-    }
+    out.write(b", tooltip=\"");
+    write_facts(shown, out, point);
+    out.write(b"\"");
 }
 
-// Writes the marks of a point.
-fn write_marks<K: Sink>(shown: &ViewProgram<'_>, out: &mut Pieces<'_, K>, point: u32)
+// Writes a node behind its number.
+fn write_node<K: Sink>(shown: &ViewProgram<'_>, out: &mut Pieces<'_, K>, point: u32)
     requires ready { CanWrite K.Sink out.old }
     requires shown { AreShown shown.now }
+    requires form { shown.now.names.form ≡ Escaped }
     requires point { point < point_count shown.now.found.graph.now }
-    ensures { Writes K.Sink out.old out.new (marks shown.now.found.graph.now (known_of shown.now) point) }
+    requires shows { IsShownPoint shown.now point }
+    ensures { Writes K.Sink out.old out.new (node_body shown.now.found.graph.now (known_of shown.now) shown.now.view point) }
 {
-    write_path_marks(shown, out, point);
-    write_if(out, shown.is_doubtful(point), b", peripheries=2");
+    let marks = shown.marks(point);
+    write_node_names(out, point, marks);
+    write_label(shown, out, point);
+    out.write(b"\"");
+    write_tooltip(shown, out, point);
+    write_look(out, marks);
+    out.write(b"];\n");
 }
 
 // Writes a procedure as a cluster.
@@ -372,6 +381,9 @@ fn write_cluster<K: Sink>(shown: &ViewProgram<'_>, out: &mut Pieces<'_, K>, proc
     out.write(b"  subgraph \"cluster_");
     write_number(out, procedure);
     out.write(b"\" {\n");
+    out.write(b"    id=\"procedure");
+    write_number(out, procedure);
+    out.write(b"\";\n    class=\"procedure\";\n");
     out.write(b"    label=");
     write_quoted(out, shown.procedure_name(procedure));
     out.write(b";\n");
@@ -486,8 +498,22 @@ fn write_step<K: Sink>(shown: &ViewProgram<'_>, out: &mut Pieces<'_, K>, source:
     out.write(b";\n");
 }
 
+// Writes what an edge between procedures looks like, with its word and the line of the call.
+fn write_across<K: Sink>(out: &mut Pieces<'_, K>, word: &[u8], line: u32)
+    requires { CanWrite K.Sink out.old }
+    ensures { Writes K.Sink out.old out.new (across word.now line) }
+{
+    out.write(b" [class=\"");
+    out.write(word);
+    out.write(b"\", style=dashed, color=grey60, fontcolor=grey40, constraint=false, xlabel=\"");
+    out.write(word);
+    out.write(b" ");
+    write_number(out, line);
+    out.write(b"\"];\n");
+}
+
 // Writes the edge of a call or a return, with the line of the call.
-fn write_across<K: Sink>(
+fn write_passage<K: Sink>(
     shown: &ViewProgram<'_>,
     out: &mut Pieces<'_, K>,
     source: u32,
@@ -497,14 +523,10 @@ fn write_across<K: Sink>(
 )
     requires ready { CanWrite K.Sink out.old }
     requires site { site < point_count shown.now.found.graph.now }
-    ensures { Writes K.Sink out.old out.new (arrow source target ++ across ++ word.now
-        ++ decimal (line_at shown.now.found.graph.now site) ++ codes "\"];\n") }
+    ensures { Writes K.Sink out.old out.new (arrow source target ++ across word.now (line_at shown.now.found.graph.now site)) }
 {
     write_arrow(out, source, target);
-    out.write(ACROSS);
-    out.write(word);
-    write_number(out, line(shown.found.graph, site));
-    out.write(b"\"];\n");
+    write_across(out, word, line(shown.found.graph, site));
 }
 
 // Writes an edge.
@@ -516,8 +538,8 @@ fn write_edge<K: Sink>(shown: &ViewProgram<'_>, out: &mut Pieces<'_, K>, edge: E
 {
     match edge {
         Edge::Step { from, to } => write_step(shown, out, from, to),
-        Edge::Call { site, from, to } => write_across(shown, out, from, to, b"call ", site),
-        Edge::Ret { site, from, to } => write_across(shown, out, from, to, b"return ", site),
+        Edge::Call { site, from, to } => write_passage(shown, out, from, to, b"call", site),
+        Edge::Ret { site, from, to } => write_passage(shown, out, from, to, b"return", site),
     }
 }
 
@@ -570,7 +592,7 @@ fn write_passed_call<K: Sink>(shown: &ViewProgram<'_>, out: &mut Pieces<'_, K>, 
         return;
     }
     write_arrow(out, point, point + 1);
-    out.write(b" [style=dotted, arrowhead=none];\n");
+    out.write(b" [class=\"passed\", style=dotted, arrowhead=none];\n");
 }
 
 /// Writes the picture, but for the line that ends it.
@@ -585,6 +607,7 @@ pub fn write_open_dot<K: Sink>(shown: &ViewProgram<'_>, out: &mut Pieces<'_, K>)
     write_head(out);
     write_shown_clusters(shown, out);
     shown.write_all_points(&DotEdges, out);
+    write_legend(out, shown.view.look.legend);
 }
 
 // A point as a node.
@@ -602,11 +625,7 @@ impl PointForm for DotNodes {
         }
         out.write(b"    ");
         write_number(out, point);
-        out.write(b" [label=\"");
-        write_label(shown, out, point);
-        out.write(b"\"");
-        write_marks(shown, out, point);
-        out.write(b"];\n");
+        write_node(shown, out, point);
     }
 }
 
@@ -635,16 +654,18 @@ impl PointForm for DotEdges {
 /// - the statement, `LINE: STATEMENT` as a listing writes it, or `end of NAME` at a procedure's end;
 /// - each remark that a report makes on it, in the report's words and order;
 /// - each chosen analysis, `reach: SET`, `live: SET`, `avail: SET`, `busy: SET`, with the set as `TableText` has it, or without the dummy
-///   definitions; and where that is asked for, the set behind a statement that is no call, `reach behind: SET`.
+///   definitions, broken where a line would have more than 60 signs; and where that is asked for, the set behind a statement that is no
+///   call, `reach behind: SET`. They stand in the node's tooltip where that is asked for.
 ///
 /// A point is grey where no valid path leads there. Else it is red where its statement reads a variable that may be unset, and
-/// yellow where it is an assignment that is dead. A doubtful point has a second border, whatever else it is.
+/// yellow where it is an assignment that is dead. A doubtful point has a second border, whatever else it is. Its class has the same in words,
+/// and its identity its number. A legend tells what marks mean, where it is asked for.
 ///
 /// A step is a solid edge, with T or F where a test comes out so. A call and a return are dashed and grey, with the line of the call; they
 /// do not rank their nodes. A dotted line without a head joins each call to the point behind it, and does. Where one procedure is shown, these
 /// are the edges that stay in it.
 ///
-/// The work is linear in the program, its edges, the text, and the words of the chosen analyses' sets and of the tests' sets of
+/// The work is linear in the program, its edges, the text, and the bits of the chosen analyses' sets and of the tests' sets of
 /// very busy expressions.
 #[derive(Drop)]
 pub struct DotText<'a> {

@@ -2,6 +2,8 @@
 #![tactic(auto)]
 
 mod dots;
+mod legend;
+mod marks;
 
 pub use dots::{DotText, write_open_dot};
 pub use std::alloc::AllocError as OutOfMemory;

@@ -6,6 +6,7 @@ pub mod Pictured
 pub mod Placed
 pub mod Putting
 pub mod Reaching
+pub mod SameLines
 pub mod Searched
 pub mod Shown
 pub mod Surrounding

@@ -10,7 +10,7 @@ use Rattle.flow_reports.specs.Reports.{IsKnowledge, Knowledge}
 use Rattle.flow_reports.specs.Uses.{unset_uses}
 use Rattle.flow_reports.specs.declared.unset.UnsetUse.{UnsetUse}
 use Rattle.flow_texts.specs.Tables.{line_at, variable_text}
-use Rattle.flow_views.specs.Dots.{arrow, open_dot}
+use Rattle.flow_views.specs.Dots.{arrow, open_dot, text_if}
 use Rattle.flow_views.specs.Views.{end_shown, first_shown}
 use Rattle.flow_views.specs.declared.view.View.{View}
 use Rattle.flow_why.specs.Witnesses.{IsWitness}
@@ -52,10 +52,16 @@ hop_marks shows (hop.Step x y) = point_mark shows x ++ arrow_mark shows x y []
 hop_marks shows (hop.Enter site x y) = point_mark shows x ++ arrow_mark shows x y []
 hop_marks shows (hop.Pass site x callee z effect) = point_mark shows x ++ arrow_mark shows x z (codes ", style=dashed, arrowhead=normal")
 
+-- a line more of the legend, where there is one
+abbrev pub path_legend : Bool → List ℕ
+path_legend is_asked =
+    text_if is_asked (codes "  subgraph \"cluster_legend\" {\n    legend8 [class=\"legend\", shape=box, label=\"on the path\", color=blue, penwidth=3];\n"
+    ++ codes "    legend7 -> legend8 [class=\"legend\", style=invis];\n  }\n")
+
 -- The picture, in which marks of a node or an edge are put to what is told of it before: Graphviz does so in a strict graph.
-abbrev pub marked_dot : (ℕ → Bool) → List ℕ → List Hop → ℕ → List ℕ
-marked_dot shows picture hops point =
-    codes "strict " ++ picture ++ flat_map (hop_marks shows) hops ++ point_mark shows point ++ codes "}\n"
+abbrev pub marked_dot : (ℕ → Bool) → List ℕ → List Hop → ℕ → List ℕ → List ℕ
+marked_dot shows picture hops point more =
+    codes "strict " ++ picture ++ flat_map (hop_marks shows) hops ++ point_mark shows point ++ more ++ codes "}\n"
 
 -- The text is the picture of the meets over all valid paths, with a path of the use that is asked for.
 pub record IsDotWithPath (program : Program) (view : View) (text out : List ℕ) : Type 0 where
@@ -65,7 +71,7 @@ pub record IsDotWithPath (program : Program) (view : View) (text out : List ℕ)
   pub is_asked : asked_use program known view text ≡ Some one
   pub hops : List Hop
   pub is_witness : IsWitness (shape_of program) (transfer_of program Reach one.variable) one.point hops
-  pub is_text : out ≡ marked_dot (is_point_shown program view) (open_dot program known view) hops one.point
+  pub is_text : out ≡ marked_dot (is_point_shown program view) (open_dot program known view) hops one.point (path_legend view.look.legend)
 
 -- No use is asked for.
 pub record LacksUse (program : Program) (view : View) (text : List ℕ) : Type 0 where

@@ -2,12 +2,13 @@
 
 ghost use Rattle.std.specs.Prelude.{◌≡◌, ◌<◌, ◌++◌, All, codes, flat_map, length, map, IfOk, IfSome};
 ghost use Rattle.flow_graph.specs.Points.{point_count};
-ghost use Rattle.flow_reports.specs.code.Reported.{TellReport};
+ghost use Rattle.report_answers.specs.code.Reported.{TellReport};
 ghost use Rattle.flow_views.specs.ViewTables.{AreViewTables};
-ghost use Rattle.flow_views.specs.code.ViewProgram.{AreShown};
+ghost use Rattle.flow_views.specs.code.ViewProgram.{AreShown, known_of};
+ghost use Rattle.flow_views.specs.declared.names.NameForm.TheVariants.{Quoted};
 ghost use Rattle.flow_views.specs.Json.{array, boolean, edge_object};
 ghost use Rattle.flow_paths.specs.Doubts.{doubt_line};
-ghost use Rattle.flow_paths.specs.Paths.{IsJsonWithPaths, hop_object, path_field, remark_with_path};
+ghost use Rattle.flow_paths.specs.Paths.{IsJsonWithPaths, hop_object, lines_with, path_field, remark_with_path};
 ghost use Rattle.flow_paths.specs.Sets.{names, number_or_null, numbers, set_fields};
 ghost use Rattle.flow_paths.specs.code.Arounds.{around_at, sets_of};
 ghost use Rattle.flow_paths.specs.code.UnsetPaths.{AreWitnessesOf, hops_at};
@@ -25,10 +26,11 @@ use crate::set_fields::{
 use crate::surroundings::{Surroundings, surroundings_of};
 use crate::unset_paths::UnsetPaths;
 use flow_graph::Graph;
-use flow_reports::{Findings, Remark, RemarkForm, ReportAnswers};
+use flow_reports::{Findings, Remark, RemarkForm};
 use flow_texts::{line, write_number};
 use flow_views::{NameForm, View, ViewProgram, ViewTables};
-use json_texts::{write_end, write_json, write_remark_head};
+use json_texts::{write_end, write_json, write_json_changes, write_remark_head};
+use report_answers::ReportAnswers;
 use std::alloc::Global;
 use std::marker::Model;
 use tac_program::Program;
@@ -150,7 +152,29 @@ impl RemarkForm for PathLine<'_> {
     }
 }
 
-/// The lines of JSON of [`JsonText`](json_texts::JsonText), in which each remark has what stands around it, behind its other fields:
+// Writes the lines but for doubts and the last one, with sets or with differences.
+fn write_lines<K: Sink>(
+    shown: &ViewProgram<'_>,
+    form: &PathLine<'_>,
+    changes: bool,
+    out: &mut Pieces<'_, K>,
+)
+    requires ready { CanWrite K.Sink out.old }
+    requires shown { AreShown shown.now }
+    requires form { shown.now.names.form ≡ Quoted }
+    ensures { Writes K.Sink out.old out.new (lines_with changes
+        (remark_with_path (hops_at form.now.paths.now) (sets_of (around_at form.now.arounds.now)))
+        shown.now.found.graph.now (known_of shown.now) shown.now.view) }
+{
+    if changes {
+        write_json_changes(shown, form, out);
+    } else {
+        write_json(shown, form, out);
+    }
+}
+
+/// The lines of JSON of [`JsonText`](json_texts::JsonText), or of [`JsonChangesText`](json_texts::JsonChangesText), in which each remark has
+/// what stands around it, behind its other fields:
 ///
 ///     {"type":"remark","point":3,"line":5,"first":29,"last":35,"kind":"unset","variable":"x",
 ///      "path":[{"kind":"pass","site":0,"callee":1,"from":0,"to":1},..]}
@@ -176,6 +200,7 @@ impl RemarkForm for PathLine<'_> {
 /// some 150 bytes.
 pub struct JsonPathsText<'a> {
     graph: &'a Graph<'a>,
+    changes: bool,
     shown: ViewProgram<'a>,
     paths: UnsetPaths,
     around: Surroundings,
@@ -192,7 +217,7 @@ impl<'a> Model for JsonPathsText<'a> {
 
     ghost Value = { List ℕ };
 
-    ghost view = { λ text. json_with_paths (hops_at text.paths) (sets_of (around_at text.around.arounds)) text.around.doubts.items
+    ghost view = { λ text. json_with_paths text.changes (hops_at text.paths) (sets_of (around_at text.around.arounds)) text.around.doubts.items
         text.shown.found.graph.now (known_of text.shown) text.shown.view };
 
     ghost invariant = { λ text. AreShown text.shown × (text.shown.names.form ≡ Quoted) × (text.shown.found.graph.now ≡ text.graph.now)
@@ -204,6 +229,7 @@ impl Drop for JsonPathsText<'_> {
     fn drop(self) {
         let JsonPathsText {
             graph: _,
+            changes: _,
             shown: _,
             paths: _,
             around: _,
@@ -254,7 +280,8 @@ fn paths_shown(
 }
 
 impl<'a> JsonPathsText<'a> {
-    /// The lines, ready to be written.
+    /// The lines, ready to be written, with differences in place of sets where they are asked for: very busy expressions have a line each
+    /// there too.
     ///
     /// The conditions: the answers to what a report asks and the tables are of this graph, these of the analyses that are shown, and the
     /// procedure that is shown is one of its program. Fails only where memory runs out.
@@ -264,17 +291,19 @@ impl<'a> JsonPathsText<'a> {
         tables: &'a ViewTables,
         answers: &'a ReportAnswers,
         view: View,
+        changes: bool,
     ) -> Result<JsonPathsText<'a>, OutOfMemory>
         requires tables { AreViewTables graph.now view tables.now }
         requires answers { TellReport graph.now answers.now }
         requires procedure { IfSome view.procedure (λ procedure. procedure < length graph.now.procedure_names) }
-        ensures { IfOk result (IsJsonWithPaths graph.now view) }
+        ensures { IfOk result (IsJsonWithPaths changes graph.now view) }
     {
         let shown = ViewProgram::of(alloc, graph, tables, answers, view, NameForm::Quoted)?;
         let paths = paths_shown(alloc, graph, &shown)?;
         let around = surroundings_of(alloc, graph, answers, view)?;
         Ok(JsonPathsText {
             graph,
+            changes,
             shown,
             paths,
             around,
@@ -290,7 +319,7 @@ impl<'a> Text for JsonPathsText<'a> {
             paths: &self.paths,
             arounds: &self.around.arounds,
         };
-        write_json(&self.shown, &form, out);
+        write_lines(&self.shown, &form, self.changes, out);
         write_doubts(out, self.graph, &self.around.doubts);
         write_end(&self.shown, out);
     }

@@ -2,10 +2,10 @@
 
 ghost use Rattle.std.specs.Prelude.{◌≡◌, ◌<◌, ◌++◌, ◌&&◌, codes, decimal, flat_map, length, IfOk, IfSome, MatchOption};
 ghost use Rattle.flow_graph.specs.Points.{point_count};
-ghost use Rattle.flow_reports.specs.code.Reported.{TellReport};
+ghost use Rattle.report_answers.specs.code.Reported.{TellReport};
 ghost use Rattle.flow_views.specs.Dots.{arrow};
 ghost use Rattle.flow_views.specs.ViewTables.{AreViewTables};
-ghost use Rattle.flow_paths.specs.Pictures.{IsDotWithPath, LacksUse, arrow_mark, hop_marks, point_mark};
+ghost use Rattle.flow_paths.specs.Pictures.{IsDotWithPath, LacksUse, arrow_mark, hop_marks, path_legend, point_mark};
 ghost use Rattle.flow_paths.specs.code.Doubted.{is_shown};
 ghost use Rattle.text_pieces.specs.Pieces.{CanWrite, Writes};
 
@@ -15,10 +15,11 @@ use crate::shown::{Shown, is_within, points_shown};
 use crate::unset_paths::UnsetPaths;
 use dot_texts::write_open_dot;
 use flow_graph::Graph;
-use flow_reports::{ReportAnswers, UnsetUse};
+use flow_reports::UnsetUse;
 use flow_texts::write_number;
 use flow_views::{NameForm, View, ViewProgram, ViewTables};
 use flow_why::Hop;
+use report_answers::ReportAnswers;
 use std::alloc::Global;
 use std::marker::Model;
 use text_pieces::{Pieces, Sink, Text};
@@ -125,6 +126,20 @@ fn write_path_marks<K: Sink>(out: &mut Pieces<'_, K>, shown: Shown, hops: &[Hop]
     }
 }
 
+// Writes what the legend says of the path, where there is one.
+fn write_path_legend<K: Sink>(out: &mut Pieces<'_, K>, is_asked: bool)
+    requires { CanWrite K.Sink out.old }
+    ensures { Writes K.Sink out.old out.new (path_legend is_asked) }
+{
+    if !is_asked {
+        return;
+    }
+    out.write(
+        b"  subgraph \"cluster_legend\" {\n    legend8 [class=\"legend\", shape=box, label=\"on the path\", color=blue, penwidth=3];\n    \
+        legend7 -> legend8 [class=\"legend\", style=invis];\n  }\n",
+    );
+}
+
 /// The picture of a program as `DotText` has it, in which one path is marked: a way from the beginning of `main` to a use of a variable, on
 /// which nothing sets it.
 ///
@@ -142,14 +157,14 @@ impl<'a> Model for PathDotText<'a> {
     ghost use Rattle.flow_views.specs.Dots.{open_dot};
     ghost use Rattle.flow_views.specs.code.ViewProgram.{AreShown, known_of};
     ghost use Rattle.flow_views.specs.declared.names.NameForm.TheVariants.{Escaped};
-    ghost use Rattle.flow_paths.specs.Pictures.{marked_dot};
+    ghost use Rattle.flow_paths.specs.Pictures.{marked_dot, path_legend};
     ghost use Rattle.flow_paths.specs.code.Doubted.{is_shown};
     ghost use Rattle.flow_paths.specs.code.UnsetPaths.{hops_at};
 
     ghost Value = { List ℕ };
 
     ghost view = { λ text. marked_dot (is_shown text.points) (open_dot text.shown.found.graph.now (known_of text.shown) text.shown.view)
-        (hops_at text.paths text.one.point text.one.variable) text.one.point };
+        (hops_at text.paths text.one.point text.one.variable) text.one.point (path_legend text.shown.view.look.legend) };
 
     ghost invariant = { λ text. AreShown text.shown × (text.shown.names.form ≡ Escaped) };
 }
@@ -210,6 +225,7 @@ impl<'a> Text for PathDotText<'a> {
         let hops = self.paths.hops(self.one.point, self.one.variable);
         write_path_marks(out, self.points, hops);
         write_point_mark(out, self.points, self.one.point);
+        write_path_legend(out, self.shown.view.look.legend);
         out.write(b"}\n");
     }
 }

@@ -3,7 +3,7 @@
 ghost use Rattle.std.specs.Prelude.{◌<◌, All, IfOk, IfSome, length};
 ghost use Rattle.flow_graph.specs.Points.{point_count};
 ghost use Rattle.flow_reports.specs.Reports.{IsKnowledge, Knowledge};
-ghost use Rattle.flow_reports.specs.code.Reported.{TellReport};
+ghost use Rattle.report_answers.specs.code.Reported.{TellReport};
 ghost use Rattle.flow_paths.specs.Doubts.{AreDoubts};
 ghost use Rattle.flow_paths.specs.code.Arounds.{AreSetsOf};
 
@@ -13,8 +13,9 @@ use crate::doubts::{Doubt, doubts_of, take_doubt};
 use crate::shown::{points_shown, remarks_shown};
 use flow_graph::Graph;
 use flow_reasons::Reasons;
-use flow_reports::{Findings, ReportAnswers};
+use flow_reports::Findings;
 use flow_views::View;
+use report_answers::ReportAnswers;
 use std::alloc::Global;
 
 /// What stands around the remarks that are shown, and the doubts of assignments.

@@ -1,6 +1,6 @@
 -- What is shown of a program, in both texts: which procedures and points, which analyses, what a statement and a label are called, and how a
 -- test comes out.
-use Rattle.std.specs.Prelude.{ℕ, suc, ◌+◌, Bool, not, List, [], ◌∷◌, flat_map, length, Option, Some, None, if◌then◌else◌, codes, ◌==◌}
+use Rattle.std.specs.Prelude.{ℕ, suc, ◌+◌, Bool, not, ◌&&◌, List, [], ◌∷◌, flat_map, length, Option, Some, None, if◌then◌else◌, codes, ◌==◌}
 use Rattle.std.specs.Prelude.{option_and_then, option_map, slice_get, unwrap_or, nat_eq}
 use Rattle.std.specs.List.{filter, range_with_len}
 use Rattle.flow_graph.specs.declared.analysis.TheConstants.Analysis as all
@@ -9,13 +9,15 @@ use Rattle.flow_graph.specs.Points.{end_place, entry_point, kind_at, place_of, p
 use Rattle.flow_graph.specs.declared.analysis.Analysis.{Analysis}
 use Rattle.flow_graph.specs.declared.analysis.Analysis.TheVariants.{Reach, Live, Avail, Busy}
 use Rattle.flow_team.specs.Tables.{Facts}
-use Rattle.flow_reports.specs.Reports.{Knowledge}
+use Rattle.flow_reports.specs.Reports.{Knowledge, dead_at, unset_at}
 use Rattle.tac_listing.specs.Listings.{names_in}
 use Rattle.tac_program.specs.Programs.{Program}
 use Rattle.tac_program.specs.Names.{Names, name_at}
 use Rattle.tac_program.specs.declared.program.Label.{Label}
 use Rattle.tac_program.specs.declared.program.StmtKind.{StmtKind}
 use Rattle.tac_program.specs.declared.program.StmtKind.TheVariants as kind
+use Rattle.text_pieces.specs.code.Lists.{some_stand}
+use Rattle.flow_views.specs.declared.marks.PointMarks.{PointMarks}
 use Rattle.flow_views.specs.declared.view.Chosen.{Chosen}
 use Rattle.flow_views.specs.declared.view.View.{View}
 
@@ -89,6 +91,16 @@ labels_at program point = labels_of_place (place_of program point).place (labels
 
 abbrev pub label_name : Program → ℕ → Label → List ℕ
 label_name program point label = name_at (names_at program point).labels label.name
+
+-- What is marked of a point: whether a valid path leads there, and if so, whether a variable may be unset there and whether an assignment is dead;
+-- and whether the point is doubtful.
+abbrev pub marks_at : Program → Knowledge → ℕ → PointMarks
+marks_at program known point = record {
+  reached = known.reach.has_path point;
+  unset = known.reach.has_path point && some_stand (unset_at program known point);
+  dead = known.reach.has_path point && some_stand (dead_at program known point);
+  doubtful = known.doubtful point;
+}
 
 -- What a test says where its jump is taken, and where it is not; other statements say nothing.
 abbrev pub outcome_of : StmtKind → Bool → Option Bool

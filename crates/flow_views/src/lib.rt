@@ -2,12 +2,14 @@
 #![tactic(auto)]
 
 mod labels;
+mod marks;
 mod names;
 mod point_form;
 mod view;
 mod view_program;
 mod view_tables;
 
+pub use marks::PointMarks;
 pub use names::{NameForm, Names};
 pub use point_form::PointForm;
 pub use std::alloc::AllocError as OutOfMemory;

@@ -49,6 +49,10 @@ pub struct Look {
     pub hides_entry: bool,
     /// Whether facts stand behind a statement as well as before it.
     pub behind: bool,
+    /// Whether facts stand in tooltips, and not in nodes.
+    pub hovers: bool,
+    /// Whether a legend tells what its marks mean.
+    pub legend: bool,
 }
 
 /// What is shown of a program, and how.

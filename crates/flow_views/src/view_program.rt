@@ -7,11 +7,10 @@ ghost use Rattle.flow_team.specs.Tables.{facts_of};
 ghost use Rattle.text_pieces.specs.Pieces.{CanWrite, Writes};
 ghost use Rattle.flow_views.specs.ViewTables.{AreViewTables};
 ghost use Rattle.flow_views.specs.Views.{end_shown, first_shown};
-ghost use Rattle.flow_reports.specs.Reports.{dead_at, remarks_at, unset_at};
+ghost use Rattle.flow_reports.specs.Reports.{remarks_at};
 ghost use Rattle.flow_reports.specs.Uses.{unset_uses};
 ghost use Rattle.flow_reports.specs.code.Findings.{knowledge_of};
-ghost use Rattle.flow_reports.specs.code.Reported.{TellReport};
-ghost use Rattle.text_pieces.specs.code.Lists.{some_stand};
+ghost use Rattle.report_answers.specs.code.Reported.{TellReport};
 ghost use Rattle.point_sets.specs.Sets.{has_behind, set_on};
 ghost use Rattle.point_sets.specs.code.PointSets.{IsPointSet};
 ghost use Rattle.point_sets.specs.declared.side.Side.TheVariants.{Behind};
@@ -22,18 +21,20 @@ ghost use Rattle.flow_views.specs.code.ViewProgram.{contents};
 ghost use Rattle.flow_views.specs.code.ViewProgram.{known_of, numbers_of};
 ghost use Rattle.text_pieces.specs.Strings.{escaped};
 ghost use Rattle.flow_views.specs.Views.{names_at, points_in, procedure_name as name_of_procedure, shown_points, is_chosen};
-ghost use Rattle.flow_views.specs.Views.{shown_procedures, known_facts, label_name, labels_at, outcome, outcome_of};
+ghost use Rattle.flow_views.specs.Views.{shown_procedures, known_facts, label_name, labels_at, marks_at, outcome, outcome_of};
 
 use crate::OutOfMemory;
 use crate::labels::labels_of_place;
+use crate::marks::PointMarks;
 use crate::names::{NameForm, Names};
 use crate::point_form::PointForm;
 use crate::view::View;
 use crate::view_tables::{ViewTables, shown_points};
 use flow_graph::{Analysis, Edge, Graph};
-use flow_reports::{Findings, RemarkForm, ReportAnswers, UnsetUse};
+use flow_reports::{Findings, RemarkForm, UnsetUse};
 use flow_team::Table;
 use point_sets::{PointSet, Side};
+use report_answers::ReportAnswers;
 use smallvec::SmallVec;
 use std::alloc::Global;
 use tac_listing::Scope;
@@ -198,24 +199,47 @@ impl ViewProgram<'_> {
         self.found.write_remarks(form, out, point);
     }
 
-    /// Whether the statement at a point reads a variable that may not be set there.
-    pub fn reads_unset(&self, point: u32, kind: &StmtKind) -> bool
+    // What is marked of a statement that is reached.
+    fn statement_marks(&self, point: u32, kind: &StmtKind) -> PointMarks
         requires shown { AreShown self.now }
         requires point { point < point_count self.now.found.graph.now }
         requires kind { kind_at self.now.found.graph.now point ≡ Some kind.now }
-        ensures { result ≡ some_stand (unset_at self.now.found.graph.now (known_of self.now) point) }
+        requires reached { (known_of self.now).reach.has_path point ≡ true }
+        ensures { result ≡ marks_at self.now.found.graph.now (known_of self.now) point }
     {
-        self.found.reads_unset(point, kind)
+        PointMarks {
+            reached: true,
+            unset: self.found.reads_unset(point, kind),
+            dead: self.found.sets_dead(point, kind),
+            doubtful: self.is_doubtful(point),
+        }
     }
 
-    /// Whether the statement at a point assigns a variable that is dead behind it.
-    pub fn sets_dead(&self, point: u32, kind: &StmtKind) -> bool
+    /// What is marked of a point.
+    ///
+    /// The conditions: it is one program that is shown, and the point is one of its.
+    pub fn marks(&self, point: u32) -> PointMarks
         requires shown { AreShown self.now }
         requires point { point < point_count self.now.found.graph.now }
-        requires kind { kind_at self.now.found.graph.now point ≡ Some kind.now }
-        ensures { result ≡ some_stand (dead_at self.now.found.graph.now (known_of self.now) point) }
+        ensures { result ≡ marks_at self.now.found.graph.now (known_of self.now) point }
     {
-        self.found.sets_dead(point, kind)
+        if !self.found.is_reached(point) {
+            return PointMarks {
+                reached: false,
+                unset: false,
+                dead: false,
+                doubtful: self.is_doubtful(point),
+            };
+        }
+        match self.found.graph.stmt(point) {
+            Some(stmt) => self.statement_marks(point, &stmt.kind),
+            None => PointMarks {
+                reached: true,
+                unset: false,
+                dead: false,
+                doubtful: self.is_doubtful(point),
+            },
+        }
     }
 
     /// The uses of variables that may not be set there, at the points that are shown, in their order. Fails only where memory runs out.

@@ -2,10 +2,10 @@
 
 use dot_texts::DotText;
 use flow_graph::Graph;
-use flow_reports::ReportAnswers;
 use flow_team::{OpenGate, Team};
 use flow_views::{Chosen, Look, View, ViewTables};
 use json_texts::JsonText;
+use report_answers::ReportAnswers;
 use std::alloc::Global;
 use std::process::Abort;
 use std::test::Fail;
@@ -93,6 +93,8 @@ fn text_of<R: Threads + Sync + AllocGlobal>(
 const PLAIN: Look = Look {
     hides_entry: false,
     behind: false,
+    hovers: false,
+    legend: false,
 };
 
 const NO_FACTS: View = View {
@@ -112,18 +114,20 @@ fn picture_of_remarks(rt: HostRuntime) -> Result<(), Fail> {
     let got = text_of(&rt, remarks::TEXT, Format::Dot, NO_FACTS)?;
     let wanted: &[u8] = b"digraph \"tacflow\" {\n  graph [fontname=\"monospace\", labeljust=l];\n  \
         node [shape=box, fontname=\"monospace\", fontsize=11];\n  \
-        edge [fontname=\"monospace\", fontsize=10];\n  subgraph \"cluster_0\" {\n    \
-        label=\"main\";\n    0 [label=\"3: read a\\l\"];\n    1 [label=\"4: read b\\l\"];\n    \
-        2 [label=\"5: x = a + b\\l\"];\n    \
-        3 [label=\"6: y = a + b\\la + b is already computed\\l\"];\n    \
-        4 [label=\"7: if x < y goto larger\\la * b is very busy\\l\"];\n    \
-        5 [label=\"8: z = a * b\\l\"];\n    6 [label=\"9: goto shown\\l\"];\n    \
-        7 [label=\"larger:\\l11: z = a * b\\l\"];\n    \
-        8 [label=\"12: x = 0\\lassignment to x is dead\\l\", style=filled, fillcolor=khaki];\n    \
-        9 [label=\"shown:\\l14: print z\\l\"];\n    \
-        10 [label=\"15: print count\\lcount may be used before it is set\\l\", color=red, fontcolor=red];\n    11 [label=\"16: return\\l\"];\n    \
-        12 [label=\"17: print y\\lnever reached\\l\", style=filled, fillcolor=grey80];\n    \
-        13 [label=\"end of main\\l\"];\n  }\n  0 -> 1;\n  1 -> 2;\n  2 -> 3;\n  3 -> 4;\n  4 -> 5 [label=\"F\"];\n  \
+        edge [class=\"step\", fontname=\"monospace\", fontsize=10];\n  subgraph \"cluster_0\" {\n    \
+        id=\"procedure0\";\n    class=\"procedure\";\n    label=\"main\";\n    \
+        0 [id=\"point0\", class=\"point\", label=\"3: read a\\l\"];\n    1 [id=\"point1\", class=\"point\", label=\"4: read b\\l\"];\n    \
+        2 [id=\"point2\", class=\"point\", label=\"5: x = a + b\\l\"];\n    \
+        3 [id=\"point3\", class=\"point\", label=\"6: y = a + b\\la + b is already computed\\l\"];\n    \
+        4 [id=\"point4\", class=\"point\", label=\"7: if x < y goto larger\\la * b is very busy\\l\"];\n    \
+        5 [id=\"point5\", class=\"point\", label=\"8: z = a * b\\l\"];\n    6 [id=\"point6\", class=\"point\", label=\"9: goto shown\\l\"];\n    \
+        7 [id=\"point7\", class=\"point\", label=\"larger:\\l11: z = a * b\\l\"];\n    \
+        8 [id=\"point8\", class=\"point dead\", label=\"12: x = 0\\lassignment to x is dead\\l\", style=filled, fillcolor=khaki];\n    \
+        9 [id=\"point9\", class=\"point\", label=\"shown:\\l14: print z\\l\"];\n    \
+        10 [id=\"point10\", class=\"point unset\", label=\"15: print count\\lcount may be used before it is set\\l\", color=red, fontcolor=red];\n    \
+        11 [id=\"point11\", class=\"point\", label=\"16: return\\l\"];\n    \
+        12 [id=\"point12\", class=\"point unreached\", label=\"17: print y\\lnever reached\\l\", style=filled, fillcolor=grey80];\n    \
+        13 [id=\"point13\", class=\"point\", label=\"end of main\\l\"];\n  }\n  0 -> 1;\n  1 -> 2;\n  2 -> 3;\n  3 -> 4;\n  4 -> 5 [label=\"F\"];\n  \
         4 -> 7 [label=\"T\"];\n  5 -> 6;\n  6 -> 9;\n  7 -> 8;\n  8 -> 9;\n  9 -> 10;\n  10 -> 11;\n  11 -> 13;\n  12 -> 13;\n}\n";
     assert_eq!(rt; got.as_slice(), wanted);
     Ok(())
@@ -146,28 +150,70 @@ fn picture_of_both_sides(rt: HostRuntime) -> Result<(), Fail> {
         look: Look {
             hides_entry: true,
             behind: true,
+            hovers: false,
+            legend: false,
         },
     };
     let got = text_of(&rt, BOTH_SIDES, Format::Dot, view)?;
     let wanted: &[u8] = b"digraph \"tacflow\" {\n  graph [fontname=\"monospace\", labeljust=l];\n  \
         node [shape=box, fontname=\"monospace\", fontsize=11];\n  \
-        edge [fontname=\"monospace\", fontsize=10];\n  subgraph \"cluster_0\" {\n    \
-        label=\"main\";\n    \
-        0 [label=\"2: read x\\lreach: -\\lreach behind: x@2\\llive: -\\llive behind: x\\l\
+        edge [class=\"step\", fontname=\"monospace\", fontsize=10];\n  subgraph \"cluster_0\" {\n    \
+        id=\"procedure0\";\n    class=\"procedure\";\n    label=\"main\";\n    \
+        0 [id=\"point0\", class=\"point\", label=\"2: read x\\lreach: -\\lreach behind: x@2\\llive: -\\llive behind: x\\l\
         avail: -\\lavail behind: -\\lbusy: -\\lbusy behind: -\\l\"];\n    \
-        1 [label=\"3: read y\\lreach: x@2\\lreach behind: x@2, y@3\\llive: x\\llive behind: x, y\\l\
+        1 [id=\"point1\", class=\"point\", label=\"3: read y\\lreach: x@2\\lreach behind: x@2, y@3\\llive: x\\llive behind: x, y\\l\
         avail: -\\lavail behind: -\\lbusy: -\\lbusy behind: -\\l\"];\n    \
-        2 [label=\"4: if x < y goto M\\lreach: x@2, y@3\\lreach behind: x@2, y@3\\llive: x, y\\llive behind: x, y\\l\
+        2 [id=\"point2\", class=\"point\", label=\"4: if x < y goto M\\lreach: x@2, y@3\\lreach behind: x@2, y@3\\llive: x, y\\llive behind: x, y\\l\
         avail: -\\lavail behind: -\\lbusy: -\\lbusy behind: -\\l\"];\n    \
-        3 [label=\"5: z = x + y\\lreach: x@2, y@3\\lreach behind: x@2, y@3, z@5\\llive: x, y\\llive behind: z\\l\
+        3 [id=\"point3\", class=\"point\", label=\"5: z = x + y\\lreach: x@2, y@3\\lreach behind: x@2, y@3, z@5\\llive: x, y\\llive behind: z\\l\
         avail: -\\lavail behind: x + y\\lbusy: x + y\\lbusy behind: -\\l\"];\n    \
-        4 [label=\"6: x = z\\lreach: x@2, y@3, z@5\\lreach behind: y@3, z@5, x@6\\llive: z\\llive behind: x\\l\
+        4 [id=\"point4\", class=\"point\", label=\"6: x = z\\lreach: x@2, y@3, z@5\\lreach behind: y@3, z@5, x@6\\llive: z\\llive behind: x\\l\
         avail: x + y\\lavail behind: -\\lbusy: -\\lbusy behind: -\\l\"];\n    \
-        5 [label=\"M:\\l8: print x\\lreach: x@2, y@3, z@5, x@6\\lreach behind: x@2, y@3, z@5, x@6\\llive: x\\llive behind: -\\l\
+        5 [id=\"point5\", class=\"point\", label=\"M:\\l8: print x\\lreach: x@2, y@3, z@5, x@6\\lreach behind: x@2, y@3, z@5, x@6\\llive: x\\llive behind: -\\l\
         avail: -\\lavail behind: -\\lbusy: -\\lbusy behind: -\\l\"];\n    \
-        6 [label=\"end of main\\lreach: x@2, y@3, z@5, x@6\\llive: -\\lavail: -\\lbusy: -\\l\"];\n  }\n  \
+        6 [id=\"point6\", class=\"point\", label=\"end of main\\lreach: x@2, y@3, z@5, x@6\\llive: -\\lavail: -\\lbusy: -\\l\"];\n  }\n  \
         0 -> 1;\n  1 -> 2;\n  2 -> 3 [label=\"F\"];\n  2 -> 5 [label=\"T\"];\n  3 -> 4;\n  4 -> 5;\n  5 -> 6;\n}\n";
     assert_eq!(rt; got.as_slice(), wanted);
+    Ok(())
+}
+
+// A name that ends where a line does, one that is longer than a line, and one more. The facts stand in tooltips, and a legend behind them.
+const LONG_SETS: &str =
+    "proc main\nread aaaaaaaaaaaaaaaaaa\ncall f\nend\nproc f\nprint aaaaaaaaaaaaaaaaaa\nprint bbbbbbbbbbbbbbbbbb\nprint ccccccccccccc\n\
+    print dddddddddddddddddddddddddddddddddddddddddddddddddddddddddddddddd\nprint e\nend\n";
+
+#[test]
+fn picture_of_long_sets(rt: HostRuntime) -> Result<(), Fail> {
+    let view = View {
+        facts: Chosen {
+            reach: false,
+            live: true,
+            avail: false,
+            busy: false,
+        },
+        procedure: Some(0),
+        look: Look {
+            hides_entry: false,
+            behind: false,
+            hovers: true,
+            legend: true,
+        },
+    };
+    let got = text_of(&rt, LONG_SETS, Format::Dot, view)?;
+    let first: &[u8] = b"digraph \"tacflow\" {\n  graph [fontname=\"monospace\", labeljust=l];\n  \
+        node [shape=box, fontname=\"monospace\", fontsize=11];\n  \
+        edge [class=\"step\", fontname=\"monospace\", fontsize=10];\n  subgraph \"cluster_0\" {\n    \
+        id=\"procedure0\";\n    class=\"procedure\";\n    label=\"main\";\n    \
+        0 [id=\"point0\", class=\"point\", label=\"2: read aaaaaaaaaaaaaaaaaa\\l\", \
+        tooltip=\"live: bbbbbbbbbbbbbbbbbb, ccccccccccccc,\\l  dddddddddddddddddddddddddddddddddddddddddddddddddddddddddddddddd,\\l  e\\l\"];\n    \
+        1 [id=\"point1\", class=\"point\", label=\"3: call f\\l\", tooltip=\"live: aaaaaaaaaaaaaaaaaa, bbbbbbbbbbbbbbbbbb, ccccccccccccc,\\l  \
+        dddddddddddddddddddddddddddddddddddddddddddddddddddddddddddddddd,\\l  e\\l\"];\n    \
+        2 [id=\"point2\", class=\"point\", label=\"end of main\\l\", tooltip=\"live: -\\l\"];\n  }\n  \
+        0 -> 1;\n  1 -> 2 [class=\"passed\", style=dotted, arrowhead=none];\n  subgraph \"cluster_legend\" {\n";
+    let legend: &[u8] =
+        b"    legend5 -> legend6 [style=dotted, arrowhead=none];\n    legend6 -> legend7 [style=dashed, color=grey60];\n  }\n}\n";
+    assert!(rt; got.starts_with(first));
+    assert!(rt; got.ends_with(legend));
     Ok(())
 }
 

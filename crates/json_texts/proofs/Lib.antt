@@ -1,1 +1,1 @@
-mod told
+pub mod told

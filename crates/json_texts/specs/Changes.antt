@@ -108,6 +108,12 @@ changed_remarks program known chosen point =
     flat_map (remark_alone chosen.busy program point) (remarks_at program known point)
     ++ (if chosen.busy then busy_line program point (flat_map very_busy (remarks_at program known point)) else [])
 
+-- the lines but for the last, with the remarks in a form of their own, each in its own line
+abbrev pub changes_with : (Program → ℕ → Remark → List ℕ) → Program → Knowledge → View → List ℕ
+changes_with object program known view =
+    named_program_line program ++ flat_map (changed_point_line program known view.facts) (shown_points program view)
+    ++ flat_map (λ point. flat_map (object program point) (remarks_at program known point)) (shown_points program view)
+
 abbrev pub json_changes : Program → Knowledge → View → List ℕ
 json_changes program known view =
     named_program_line program ++ flat_map (changed_point_line program known view.facts) (shown_points program view)

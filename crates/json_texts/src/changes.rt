@@ -4,8 +4,9 @@ ghost use Rattle.std.specs.Prelude.{◌≡◌, ℕ, ◌<◌, ◌≤◌, ◌-◌,
 ghost use Rattle.std.specs.List.{range_with_len};
 ghost use Rattle.flow_graph.specs.Points.{place_of, point_count};
 ghost use Rattle.flow_graph.specs.declared.analysis.Analysis.TheVariants.{Busy};
-ghost use Rattle.flow_reports.specs.Reports.{is_test as is_test_of, remarks_at};
-ghost use Rattle.flow_reports.specs.code.Reported.{TellReport};
+ghost use Rattle.flow_reports.specs.Reports.{remarks_at};
+ghost use Rattle.report_answers.specs.Statements.{is_test as is_test_of};
+ghost use Rattle.report_answers.specs.code.Reported.{TellReport};
 ghost use Rattle.flow_team.specs.Tables.{facts_of};
 ghost use Rattle.flow_texts.specs.Tables.{bits_at};
 ghost use Rattle.flow_views.specs.Json.{joined, remark_object};
@@ -14,7 +15,7 @@ ghost use Rattle.flow_views.specs.Views.{analysis_if, chosen_analyses, is_chosen
 ghost use Rattle.flow_views.specs.code.ViewProgram.{AreShown, IsShownPoint, IsShownTable, known_of};
 ghost use Rattle.flow_views.specs.declared.names.NameForm.TheVariants.{Quoted};
 ghost use Rattle.json_texts.specs.Changes.{IsJsonChanges, behind_changes, busy_line, busy_object, change_fields, changed_point_line, changed_remarks};
-ghost use Rattle.json_texts.specs.Changes.{changes_field, named_program_line, names_field, remark_alone, set_ahead, very_busy};
+ghost use Rattle.json_texts.specs.Changes.{changes_field, changes_with, named_program_line, names_field, remark_alone, set_ahead, very_busy};
 ghost use Rattle.json_texts.specs.code.Differences.{IsChange, old_set, told_by};
 ghost use Rattle.json_texts.specs.code.Tells.{tells_busy, tests_at};
 ghost use Rattle.point_sets.specs.Sets.{behind, has_behind};
@@ -25,15 +26,16 @@ ghost use Rattle.tac_program.specs.Programs.{Program};
 use crate::OutOfMemory;
 use crate::differences::Change;
 use crate::json::{
-    JsonLine, write_array, write_boolean, write_end, write_place, write_point_parts,
+    JsonLine, JsonRemarks, write_array, write_boolean, write_end, write_place, write_point_parts,
     write_point_place, write_program_head,
 };
 use flow_graph::{Analysis, Graph};
-use flow_reports::{Findings, Remark, RemarkForm, ReportAnswers};
+use flow_reports::{Findings, Remark, RemarkForm};
 use flow_team::Table;
 use flow_texts::write_number;
 use flow_views::{NameForm, PointForm, View, ViewProgram, ViewTables, analysis_name};
 use point_sets::{Side, has_behind};
+use report_answers::ReportAnswers;
 use std::alloc::Global;
 use std::marker::Model;
 use tac_program::StmtKind;
@@ -474,6 +476,24 @@ impl PointForm for ChangedRemarks {
         shown.write_remarks_at(&form, out, point);
         write_busy_line_if(shown, out, point);
     }
+}
+
+/// Writes the lines of JSON with differences but for the last, each remark in a line in a form of its own.
+///
+/// The conditions: it is one program that is shown, and the names of its bits are quoted.
+pub fn write_json_changes<F: RemarkForm, K: Sink>(
+    shown: &ViewProgram<'_>,
+    form: &F,
+    out: &mut Pieces<'_, K>,
+)
+    requires ready { CanWrite K.Sink out.old }
+    requires shown { AreShown shown.now }
+    requires form { shown.now.names.form ≡ Quoted }
+    ensures { Writes K.Sink out.old out.new (changes_with (F.text form.now) shown.now.found.graph.now (known_of shown.now) shown.now.view) }
+{
+    write_named_program(shown, out);
+    shown.write_all_points(&ChangedPoints, out);
+    shown.write_all_points(&JsonRemarks { form }, out);
 }
 
 /// The lines of JSON of [`JsonText`](crate::JsonText) with differences in place of sets:

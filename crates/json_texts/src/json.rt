@@ -7,7 +7,7 @@ ghost use Rattle.flow_graph.specs.Points.{place_of, point_count, procedure_at, s
 ghost use Rattle.flow_reports.specs.code.Findings.{AreFindings, IsRemarkIn};
 ghost use Rattle.text_pieces.specs.code.Lists.{text_at};
 ghost use Rattle.text_pieces.specs.Pieces.{CanWrite, Writes};
-ghost use Rattle.flow_reports.specs.code.Reported.{TellReport};
+ghost use Rattle.report_answers.specs.code.Reported.{TellReport};
 ghost use Rattle.tac_listing.specs.Listings.{statement_text};
 ghost use Rattle.flow_views.specs.ViewTables.{AreViewTables};
 ghost use Rattle.flow_views.specs.code.ViewProgram.{AreShown, IsEndIn, IsShownPoint, TellSame, known_of};
@@ -21,11 +21,12 @@ ghost use Rattle.flow_views.specs.Views.{analysis_if, chosen_analyses, label_nam
 
 use crate::OutOfMemory;
 use flow_graph::{Analysis, Edge, Graph};
-use flow_reports::{Findings, Remark, RemarkForm, ReportAnswers};
+use flow_reports::{Findings, Remark, RemarkForm};
 use flow_team::Table;
 use flow_texts::{write_members, write_number};
 use flow_views::{NameForm, PointForm, View, ViewProgram, ViewTables, analysis_name, shown_points};
 use itoa::Buffer;
+use report_answers::ReportAnswers;
 use std::alloc::Global;
 use std::marker::Model;
 use tac_program::{Label, Span, Stmt};
@@ -508,10 +509,10 @@ impl PointForm for JsonPoints {
     }
 }
 
-// The remarks on a point, each in a form.
+/// The remarks on a point, each in a form.
 #[derive(Clone, Copy)]
-struct JsonRemarks<'f, F> {
-    form: &'f F,
+pub(crate) struct JsonRemarks<'f, F> {
+    pub(crate) form: &'f F,
 }
 
 impl<F: RemarkForm> PointForm for JsonRemarks<'_, F> {

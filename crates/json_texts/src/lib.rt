@@ -5,6 +5,6 @@ mod changes;
 mod differences;
 mod json;
 
-pub use changes::JsonChangesText;
+pub use changes::{JsonChangesText, write_json_changes};
 pub use json::{JsonText, write_end, write_json, write_remark_head};
 pub use std::alloc::AllocError as OutOfMemory;

@@ -1,2 +1,3 @@
+pub mod SetLines
 pub mod Sets
 pub mod code

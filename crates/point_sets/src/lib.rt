@@ -2,6 +2,7 @@
 #![tactic(auto)]
 
 mod behind;
+mod lines;
 mod point_set;
 mod side;
 

@@ -1,22 +1,21 @@
 // A set at a point, and how it is written.
 
-ghost use Rattle.std.specs.Prelude.{◌≡◌, ℕ, ◌<◌, ◌≤◌, ◌+◌, codes, false, filter, length, map, true};
-ghost use Rattle.std.specs.List.{range_with_len};
+ghost use Rattle.std.specs.Prelude.{◌≡◌, ℕ, ◌<◌, ◌≤◌, ◌+◌, ◌-◌, ◌*◌, false, length, min, true};
 ghost use Rattle.flow_graph.specs.Transfers.{is_in_boundary};
 ghost use Rattle.flow_graph.specs.Universes.{bits};
 ghost use Rattle.flow_team.specs.Tables.{facts_of};
-ghost use Rattle.flow_texts.specs.Tables.{listed};
-ghost use Rattle.flow_texts.specs.code.Members.{Wrote, chosen};
 ghost use Rattle.point_sets.specs.Sets.{behind, is_bit_shown, passed, set_on};
+ghost use Rattle.point_sets.specs.SetLines.{columns};
+ghost use Rattle.point_sets.specs.code.Lines.{Lays, names_among, set_from};
 ghost use Rattle.point_sets.specs.code.PointSets.{IsPointSet, shows};
 ghost use Rattle.text_pieces.specs.Pieces.{CanWrite, Writes, outlet};
-ghost use Rattle.text_pieces.specs.code.Lists.{text_at};
 
 use crate::behind::{is_available_behind, is_in_each, is_in_some, reaches_behind};
+use crate::lines::Line;
 use crate::side::Side;
+use bit_rows::words_for;
 use flow_graph::{Analysis, Edge, Graph};
 use flow_team::Table;
-use flow_texts::write_set;
 use text_pieces::{Pieces, Sink, TextBlock};
 
 /// The set of a table at a point: before its statement, or behind it.
@@ -89,85 +88,134 @@ impl PointSet<'_> {
         self.contains(bit) && !(self.hides_entry && self.is_entry(bit))
     }
 
-    // Writes the text of a bit that is shown, and answers whether any stands now.
+    // Whether none of a word's bits is shown: it tells of sets before a statement alone.
+    fn is_blank(&self, at: u32) -> bool
+        requires { IsPointSet self.now }
+        ensures { result ≡ true → (k : ℕ) → k < 64 → shows self.now (64 * at + k) ≡ false }
+    {
+        match self.side {
+            Side::Before => self.table.word(self.point, at) == 0,
+            Side::Behind => false,
+        }
+    }
+
+    // Writes the text of a bit that is shown.
     fn write_bit<K: Sink>(
         &self,
         out: &mut Pieces<'_, K>,
         texts: &TextBlock,
         bit: u32,
-        others: bool,
-    ) -> bool
+        line: Line,
+    ) -> Line
         requires ready { CanWrite K.Sink out.old }
         requires set { IsPointSet self.now }
         requires bit { bit < self.now.table.now.bits }
         requires texts { self.now.table.now.bits ≤ length texts.now.texts }
-        ensures { Wrote texts.now.between (chosen texts.now.texts (shows self.now)) others bit 1 (outlet K.Sink out.old) (outlet K.Sink out.new) result }
+        requires column { line.others ≡ false → line.column < columns }
+        ensures { Lays (names_among self.now texts.now.texts bit 1) line (outlet K.Sink out.old) (outlet K.Sink out.new) result }
     {
         if !self.shows(bit) {
-            return others;
+            return line;
         }
-        out.write(texts.range(bit as usize, bit as usize + 1, others));
-        true
+        line.write_name(out, texts.text(bit))
     }
 
-    // Writes the texts of the bits before one that are shown, and answers whether there are any.
-    fn write_bits<K: Sink>(&self, out: &mut Pieces<'_, K>, texts: &TextBlock, bits: u32) -> bool
+    // Writes the texts of those bits that are shown, among those from one on and before another.
+    fn write_bits<K: Sink>(
+        &self,
+        out: &mut Pieces<'_, K>,
+        texts: &TextBlock,
+        first: u32,
+        end: u32,
+        line: Line,
+    ) -> Line
+        requires ready { CanWrite K.Sink out.old }
+        requires set { IsPointSet self.now }
+        requires ordered { first ≤ end }
+        requires end { end ≤ self.now.table.now.bits }
+        requires texts { self.now.table.now.bits ≤ length texts.now.texts }
+        requires column { line.others ≡ false → line.column < columns }
+        ensures { Lays (names_among self.now texts.now.texts first (end - first)) line (outlet K.Sink out.old) (outlet K.Sink out.new) result }
+    {
+        let mut last = line;
+        for bit in first..end {
+            last = self.write_bit(out, texts, bit, last);
+        }
+        last
+    }
+
+    // Writes those of a word.
+    fn write_word<K: Sink>(
+        &self,
+        out: &mut Pieces<'_, K>,
+        texts: &TextBlock,
+        at: u32,
+        bits: u32,
+        line: Line,
+    ) -> Line
+        requires ready { CanWrite K.Sink out.old }
+        requires set { IsPointSet self.now }
+        requires bits { bits ≡ self.now.table.now.bits }
+        requires at { 64 * at < bits }
+        requires texts { bits ≤ length texts.now.texts }
+        requires column { line.others ≡ false → line.column < columns }
+        ensures { Lays (names_among self.now texts.now.texts (64 * at) (min (bits - 64 * at) 64)) line
+            (outlet K.Sink out.old) (outlet K.Sink out.new) result }
+    {
+        if self.is_blank(at) {
+            return line;
+        }
+        let first = 64 * at;
+        self.write_bits(out, texts, first, first + (bits - first).min(64), line)
+    }
+
+    // Writes those of all words.
+    fn write_words<K: Sink>(
+        &self,
+        out: &mut Pieces<'_, K>,
+        texts: &TextBlock,
+        bits: u32,
+        line: Line,
+    ) -> Line
         requires ready { CanWrite K.Sink out.old }
         requires set { IsPointSet self.now }
         requires bits { bits ≡ self.now.table.now.bits }
         requires texts { bits ≤ length texts.now.texts }
-        ensures { Wrote texts.now.between (chosen texts.now.texts (shows self.now)) false 0 bits (outlet K.Sink out.old) (outlet K.Sink out.new) result }
+        requires column { line.others ≡ false → line.column < columns }
+        ensures { Lays (names_among self.now texts.now.texts 0 bits) line (outlet K.Sink out.old) (outlet K.Sink out.new) result }
     {
-        let mut others = false;
-        for bit in 0..bits {
-            others = self.write_bit(out, texts, bit, others);
+        let mut last = line;
+        for at in 0..words_for(bits) {
+            last = self.write_word(out, texts, at, bits, last);
         }
-        others
-    }
-
-    // Writes those texts, or `-` where there are none.
-    fn write_shown<K: Sink>(&self, out: &mut Pieces<'_, K>, texts: &TextBlock, bits: u32)
-        requires ready { CanWrite K.Sink out.old }
-        requires commas { texts.now.between ≡ codes ", " }
-        requires set { IsPointSet self.now }
-        requires bits { bits ≡ self.now.table.now.bits }
-        requires texts { bits ≤ length texts.now.texts }
-        ensures { Writes K.Sink out.old out.new
-            (listed (map (text_at texts.now.texts) (filter (shows self.now) (range_with_len 0 bits)))) }
-    {
-        if self.write_bits(out, texts, bits) {
-            return;
-        }
-        out.write(b"-");
-    }
-
-    // Whether it is the table's set as it stands.
-    fn is_plain(&self) -> bool
-        ensures { result ≡ true → (self.now.side ≡ Side.Before) × (self.now.hides_entry ≡ false) }
-    {
-        match self.side {
-            Side::Before => !self.hides_entry,
-            Side::Behind => false,
-        }
+        last
     }
 }
 
-/// Writes the texts of those of a set's bits that are shown, in their order and with `, ` between them, or `-` where there are none.
+/// Writes the texts of those of a set's bits that are shown, in their order and in lines (`SetLines.antt`), behind a first line that has so
+/// many signs already; `-` where there are none.
 ///
 /// The conditions: the table is one of the graph's program and has the point, the edges are those out of it, and where the set behind is
-/// wanted the table has the points to which they lead; `, ` is what stands before each text, and each bit has its text.
-pub fn write_point_set<K: Sink>(out: &mut Pieces<'_, K>, texts: &TextBlock, set: &PointSet<'_>)
+/// wanted the table has the points to which they lead; each bit has its text, and the first line has less than 60 signs.
+pub fn write_point_set<K: Sink>(
+    out: &mut Pieces<'_, K>,
+    texts: &TextBlock,
+    set: &PointSet<'_>,
+    column: usize,
+)
     requires ready { CanWrite K.Sink out.old }
-    requires commas { texts.now.between ≡ codes ", " }
     requires set { IsPointSet set.now }
     requires texts { set.now.table.now.bits ≤ length texts.now.texts }
-    ensures { Writes K.Sink out.old out.new
-        (listed (map (text_at texts.now.texts) (filter (shows set.now) (range_with_len 0 set.now.table.now.bits)))) }
+    requires column { column < columns }
+    ensures { Writes K.Sink out.old out.new (set_from column (names_among set.now texts.now.texts 0 set.now.table.now.bits)) }
 {
     let bits = set.graph.bits(set.table.analysis());
-    if set.is_plain() {
-        write_set(out, texts, set.table, set.point, bits);
-    } else {
-        set.write_shown(out, texts, bits);
+    let line = Line {
+        column,
+        others: false,
+    };
+    let last = set.write_words(out, texts, bits, line);
+    if !last.others {
+        out.write(b"-");
     }
 }

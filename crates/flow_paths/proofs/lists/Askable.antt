@@ -10,13 +10,14 @@ use Rattle.flow_graph.specs.Universes.{bits, evaluated_at}
 use Rattle.flow_graph.specs.declared.analysis.Analysis.TheVariants.{Avail, Busy}
 use Rattle.flow_graph.proofs.places.Standing.{stands}
 use Rattle.flow_reports.specs.Listed.{placed_at, remarks_of}
-use Rattle.flow_reports.specs.Reports.{Knowledge, assigned, busy_at, computed_at, dead_at, is_test, remarks_at, remarks_when_reached, unset_at}
+use Rattle.flow_reports.specs.Reports.{Knowledge, busy_at, computed_at, dead_at, remarks_at, remarks_when_reached, unset_at}
+use Rattle.report_answers.specs.Statements.{assigned, is_test}
 use Rattle.flow_reports.specs.code.Findings.{IsRemarkIn}
 use Rattle.flow_reports.specs.declared.listed.PlacedRemark.{PlacedRemark}
 use Rattle.flow_reports.specs.declared.remark.Remark.{Remark}
 use Rattle.flow_reports.specs.declared.remark.Remark.TheVariants.{NeverReached, Unset, Computed, VeryBusy, Dead}
-use Rattle.flow_reports.proofs.knowledge.KnownReports.{evaluated_there}
-use Rattle.flow_reports.proofs.knowledge.RemarkLines.{assigned_there, next_below}
+use Rattle.report_answers.proofs.queries.Statements.{evaluated_there}
+use Rattle.report_answers.proofs.queries.Statements.{assigned_there, next_below}
 use Rattle.flow_texts.specs.Tables.{bits_at}
 use Rattle.tac_program.specs.Programs.{Program}
 use Rattle.tac_program.specs.Sound.{IsSound}

@@ -8,7 +8,8 @@ use Rattle.std.proofs.lemmas.List.{map-append}
 use Rattle.std.proofs.lemmas.List.Elements.{All-push}
 use Rattle.flow_graph.specs.Points.{kind_at}
 use Rattle.flow_graph.specs.Universes.{defined_variable}
-use Rattle.flow_reports.specs.Reports.{Knowledge, assigned, dead_at}
+use Rattle.flow_reports.specs.Reports.{Knowledge, dead_at}
+use Rattle.report_answers.specs.Statements.{assigned}
 use Rattle.flow_reports.proofs.knowledge.RemarkLines.{dead_is, none_dead, some_if}
 use Rattle.flow_texts.proofs.sets.RangeLines.{range_split}
 use Rattle.tac_program.specs.Programs.{Program}

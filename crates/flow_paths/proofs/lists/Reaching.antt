@@ -17,7 +17,7 @@ use Rattle.flow_reports.specs.declared.remark.Remark.{Remark}
 use Rattle.flow_reports.specs.declared.remark.Remark.TheVariants.{NeverReached, Unset, Computed, VeryBusy, Dead}
 use Rattle.flow_reports.specs.declared.unset.UnsetUse.{UnsetUse}
 use Rattle.flow_reports.proofs.knowledge.KnownReports.{Agree, agrees, same_unset}
-use Rattle.flow_reports.proofs.knowledge.RemarkLines.{variables_have_dummies}
+use Rattle.report_answers.proofs.queries.Statements.{variables_have_dummies}
 use Rattle.tac_program.specs.Programs.{Program}
 use Rattle.tac_program.specs.declared.program.StmtKind.{StmtKind}
 use Rattle.flow_paths.specs.code.UnsetPaths.{IsUnsetUse}

@@ -9,16 +9,17 @@ use Rattle.flow_graph.specs.Points.{kind_at, point_count, points}
 use Rattle.flow_graph.proofs.lists.Membership.{Contains-filter, Contains-flat_map, Contains-range}
 use Rattle.flow_graph.proofs.places.Standing.{stands}
 use Rattle.flow_reports.specs.Listed.{placed_at, remarks_of}
-use Rattle.flow_reports.specs.Reports.{IsKnowledge, Knowledge, assigned, remarks_at}
-use Rattle.flow_reports.specs.code.Answered.{facts_in}
+use Rattle.flow_reports.specs.Reports.{IsKnowledge, Knowledge, remarks_at}
+use Rattle.report_answers.specs.Statements.{assigned}
+use Rattle.report_answers.specs.code.Answered.{facts_in}
 use Rattle.flow_reports.specs.code.Findings.{AreFindings, TellDoubtful, knowledge_of}
-use Rattle.flow_reports.specs.code.Reported.{Reported, busy_facts}
+use Rattle.report_answers.specs.code.Reported.{Reported, busy_facts}
 use Rattle.flow_graph.specs.declared.analysis.Analysis.TheVariants.{Reach, Live, Avail}
 use Rattle.flow_reports.specs.declared.findings.Findings.{Findings}
 use Rattle.flow_reports.specs.declared.listed.PlacedRemark.{PlacedRemark}
 use Rattle.flow_reports.specs.declared.remark.Remark.{Remark}
 use Rattle.flow_reports.proofs.knowledge.KnownReports.{Agree, agrees, same_remarks}
-use Rattle.flow_reports.proofs.knowledge.RemarkLines.{next_below}
+use Rattle.report_answers.proofs.queries.Statements.{next_below}
 use Rattle.flow_views.specs.Views.{end_shown, first_shown, shown_points}
 use Rattle.flow_views.specs.declared.view.View.{View}
 use Rattle.tac_program.specs.Programs.{Program}

@@ -1,7 +1,7 @@
 -- The point before one in its procedure is shown where that one is.
-use Rattle.std.proofs.Common.{◌≡◌, ℕ, zero, suc, ◌+◌, ◌-◌, ◌<◌, ◌≤◌, Bool, true, false, IfSome, length, Option, Some, None, nat_eq, if◌then◌else◌, refl, ap, subst, sym, ◌∙◌, arith}
+use Rattle.std.proofs.Common.{◌≡◌, ℕ, zero, suc, ◌-◌, ◌<◌, ◌≤◌, Bool, true, false, IfSome, length, Option, Some, None, nat_eq, if◌then◌else◌, refl, ap, subst, sym, ◌∙◌, arith}
 use Rattle.tac_program.specs.Programs.{Program}
-use Rattle.flow_graph.specs.Points.{end_place, entry_point, place_of, point_count, procedure_at}
+use Rattle.flow_graph.specs.Points.{entry_point, place_of, point_count, procedure_at}
 use Rattle.flow_graph.specs.ProgramLaws.{IsPlaceOf}
 use Rattle.flow_graph.proofs.places.PointLemmas.{points_have_places}
 use Rattle.flow_views.specs.Views.{end_shown, first_shown}

@@ -1,12 +1,12 @@
 -- What stands behind a statement, as the code's tables tell it and as all that is known does.
-use Rattle.std.proofs.Common.{◌≡◌, ℕ, zero, suc, ◌+◌, ◌<◌, ◌≤◌, Bool, true, false, not, ◌&&◌, ◌||◌, List, [], ◌∷◌, Contains, IfSome, length, Option, Some, None}
+use Rattle.std.proofs.Common.{◌≡◌, ℕ, suc, ◌+◌, ◌<◌, ◌≤◌, Bool, true, false, not, ◌&&◌, ◌||◌, List, [], ◌∷◌, Contains, IfSome, length, Option, Some, None}
 use Rattle.std.proofs.Common.{◌-◌, option_map, unwrap_or, if◌then◌else◌, nat_eq, refl, sym, ap, subst, ◌∙◌, arith}
 use Rattle.std.specs.List.{list_all, list_any}
 use Rattle.tac_program.specs.Programs.{Program}
 use Rattle.tac_program.specs.Sound.{IsSound}
 use Rattle.tac_program.specs.declared.program.StmtKind.{StmtKind}
 use Rattle.tac_program.specs.declared.program.StmtKind.TheVariants as kind
-use Rattle.flow_graph.specs.Edges.{callees_named, calls, edges_from}
+use Rattle.flow_graph.specs.Edges.{callees_named, edges_from}
 use Rattle.flow_graph.specs.Paths.{target_of}
 use Rattle.flow_graph.specs.Points.{end_place, entry_point, kind_at, point_count, procedure_at}
 use Rattle.flow_graph.specs.ProgramLaws.{IsPlaceOf}

@@ -23,13 +23,13 @@ use Rattle.flow_graph.specs.declared.analysis.Analysis.TheVariants.{Reach, Live,
 use Rattle.flow_graph.specs.declared.edge.Edge.{Edge}
 use Rattle.flow_team.specs.Tables.{Facts, TableFacts, facts_of}
 use Rattle.flow_graph.proofs.edges.EdgeLemmas.{IsFrom, a_step, a_call, a_return, edges_from_are, in_procedure}
-use Rattle.flow_reports.specs.Reports.{Knowledge, assigned, dead_at, unset_at}
+use Rattle.flow_reports.specs.Reports.{Knowledge, dead_at, unset_at}
+use Rattle.report_answers.specs.Statements.{assigned}
 use Rattle.flow_texts.specs.Tables.{bits_at}
 use Rattle.flow_reports.specs.code.Findings.{AreFindings, TellDoubtful}
-use Rattle.text_pieces.specs.code.Lists.{some_stand}
 use Rattle.flow_texts.proofs.sets.ListTexts.{map-members}
 use Rattle.point_sets.specs.Sets.{calls_at}
-use Rattle.flow_views.specs.Dots.{arrow, passed_call, text_if_some}
+use Rattle.flow_views.specs.Dots.{arrow, passed_call}
 use Rattle.flow_views.specs.Json.{array, boolean, span_fields}
 use Rattle.flow_views.specs.ViewTables.{AreViewTables}
 use Rattle.flow_views.specs.Views.{end_shown, first_shown, analysis_if, labels_in}
@@ -89,11 +89,6 @@ shown_within program (Some procedure) number there is = (
   omega (arith, ap (entry_point program) is),
   omega (arith, ap (entry_point program) is, ap (end_place program) is),
 )
-
--- a mark where there is something
-pub mark_is : {A : Type 0} (xs : List A) (text : List ℕ) → (if some_stand xs then text else []) ≡ text_if_some xs text
-mark_is [] text = refl
-mark_is (x ∷ xs) text = refl
 
 -- at a procedure's end no variable is read or assigned
 filter_none : (test : ℕ → Bool) (xs : List ℕ) → ((x : ℕ) → test x ≡ false) → filter test xs ≡ []
@@ -213,8 +208,8 @@ no_span program point ends =
 
 -- a call is joined to the point behind it
 pub passed_is : (program : Program) (point : ℕ) → calls_at program point ≡ true
-    → arrow point (point + 1) ++ codes " [style=dotted, arrowhead=none];\n" ≡ passed_call program point
+    → arrow point (point + 1) ++ codes " [class=\"passed\", style=dotted, arrowhead=none];\n" ≡ passed_call program point
 passed_is program point calls =
     let next : point + 1 ≡ suc point = omega arith in
-    ap (λ n. arrow point n ++ codes " [style=dotted, arrowhead=none];\n") next
-    ∙ sym (ap (λ (b : Bool). if b then arrow point (suc point) ++ codes " [style=dotted, arrowhead=none];\n" else []) calls)
+    ap (λ n. arrow point n ++ codes " [class=\"passed\", style=dotted, arrowhead=none];\n") next
+    ∙ sym (ap (λ (b : Bool). if b then arrow point (suc point) ++ codes " [class=\"passed\", style=dotted, arrowhead=none];\n" else []) calls)

@@ -5,12 +5,9 @@ use Rattle.std.proofs.lemmas.Grind.{flat_map-append}
 use Rattle.std.proofs.lemmas.List.{map-append, take_more}
 use Rattle.std.proofs.Math.Seq.{take-length}
 use Rattle.tac_program.specs.Names.{name_at}
-use Rattle.flow_texts.specs.Tables.{listed}
 use Rattle.text_pieces.specs.code.Lists.{after, some_stand}
 use Rattle.flow_texts.proofs.sets.ListTexts.{some_stand-map}
 use Rattle.flow_views.specs.Json.{joined}
-use Rattle.text_pieces.specs.Strings.{escaped}
-use Rattle.text_pieces.proofs.sinks.Escapes.{escaped-append}
 use Rattle.tac_listing.proofs.layouts.StatementNames.{stand_before}
 
 pub after-joined : (between : List ℕ) (texts : List (List ℕ)) → after between false texts ≡ joined between texts
@@ -26,21 +23,6 @@ joined_more between (first ∷ others) text =
     ∙ append_assoc first (flat_map (λ t. between ++ t) others) (between ++ text)
     ∙ ap (λ t. first ++ (flat_map (λ t. between ++ t) others ++ t)) (sym (append-nil (between ++ text)))
     ∙ ap (λ t. first ++ t) (sym (flat_map-append (λ t. between ++ t) others (text ∷ [])))
-
--- names that are escaped one by one
-escaped_others : (named : ℕ → List ℕ) (numbers : List ℕ)
-    → flat_map (λ t. codes ", " ++ t) (map (λ n. escaped (named n)) numbers) ≡ escaped (flat_map (λ t. codes ", " ++ t) (map named numbers))
-escaped_others named [] = refl
-escaped_others named (n ∷ numbers) =
-    ap (λ t. codes ", " ++ escaped (named n) ++ t) (escaped_others named numbers)
-    ∙ sym (escaped-append (codes ", " ++ named n) (flat_map (λ t. codes ", " ++ t) (map named numbers))
-    ∙ ap (λ t. t ++ escaped (flat_map (λ t. codes ", " ++ t) (map named numbers))) (escaped-append (codes ", ") (named n)))
-
-pub escaped_listed : (named : ℕ → List ℕ) (numbers : List ℕ) → listed (map (λ n. escaped (named n)) numbers) ≡ escaped (listed (map named numbers))
-escaped_listed named [] = refl
-escaped_listed named (n ∷ numbers) =
-    ap (λ t. escaped (named n) ++ t) (escaped_others named numbers)
-    ∙ sym (escaped-append (named n) (flat_map (λ t. codes ", " ++ t) (map named numbers)))
 
 -- one text more, of those before a place
 pub joined_next : {A : Type 0} (between : List ℕ) (f : A → List ℕ) (xs : List A) (i : ℕ) (x : A) → i < length xs → x ≡ get_or xs i x

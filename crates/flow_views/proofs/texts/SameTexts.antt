@@ -1,6 +1,6 @@
 -- The texts of what the code's tables and answers tell are those of all that is known.
 use Rattle.std.proofs.Common.{◌≡◌, ◌∙◌, ℕ, zero, suc, ◌+◌, ◌-◌, ◌<◌, ◌≤◌, Bool, true, false, List, [], ◌∷◌, ◌++◌, length, map, flat_map}
-use Rattle.std.proofs.Common.{◌&&◌, Contains, Option, Some, None, IfSome, if◌then◌else◌, cond, codes, decimal, refl, sym, ap, subst, arith}
+use Rattle.std.proofs.Common.{◌&&◌, not, Contains, Option, Some, None, IfSome, cond, codes, decimal, refl, sym, ap, subst, arith}
 use Rattle.std.specs.List.{filter, range_with_len}
 use Rattle.std.proofs.lemmas.Grind.{flat_map-append}
 use Rattle.flow_graph.specs.Analyses.{main_procedure}
@@ -11,9 +11,10 @@ use Rattle.flow_graph.specs.declared.analysis.Analysis.{Analysis}
 use Rattle.flow_graph.specs.declared.analysis.TheConstants.Analysis as all
 use Rattle.flow_reports.specs.Reports.{Knowledge, remark_text, remarks_at}
 use Rattle.flow_reports.specs.declared.remark.Remark.{Remark}
-use Rattle.flow_texts.specs.Tables.{bit_text, listed}
+use Rattle.flow_texts.specs.Tables.{bit_text}
 use Rattle.flow_graph.specs.Paths.{target_of}
 use Rattle.flow_graph.proofs.lists.Membership.{Contains-first, Contains-later, Contains-one}
+use Rattle.point_sets.specs.SetLines.{set_lines}
 use Rattle.point_sets.specs.Sets.{has_behind, set_on, shown_bits, side_text}
 use Rattle.point_sets.specs.declared.side.Side.{Side}
 use Rattle.point_sets.specs.declared.side.Side.TheVariants.{Before, Behind}
@@ -22,13 +23,13 @@ use Rattle.flow_reports.proofs.knowledge.KnownReports.{Agree, same_dead, same_re
 use Rattle.flow_graph.proofs.graphs.GraphLaws.{graphs_are_well_formed}
 use Rattle.tac_program.specs.Programs.{Program}
 use Rattle.tac_program.specs.Sound.{IsSound}
-use Rattle.flow_views.specs.Dots.{all_clusters, behind_if, cluster, dot_of, edge_lines, fact_line, fact_lines, head, label_line, label_lines, label_title}
-use Rattle.flow_views.specs.Dots.{marks, node, sides}
-use Rattle.flow_views.specs.Dots.{open_dot, path_marks, shown_clusters, text_if_some, title}
+use Rattle.flow_views.specs.Dots.{all_clusters, behind_if, cluster, dot_of, edge_lines, fact_lines, facts_in_lines, head, label_line, label_text, label_title}
+use Rattle.flow_views.specs.Dots.{legend, lines_on, look_of, node, node_names, open_dot, shown_clusters, sides, text_if, title}
 use Rattle.flow_views.specs.Json.{array, boolean, end_line, facts_field, json_of, json_with, point_edge, point_line, program_line, remark_object}
 use Rattle.flow_views.specs.Json.{span_fields, statement_field}
 use Rattle.text_pieces.specs.Strings.{quoted}
-use Rattle.flow_views.specs.Views.{analysis_name, chosen_analyses, is_chosen, known_facts, label_name, labels_at, points_in, procedure_name}
+use Rattle.text_pieces.specs.code.Lists.{some_stand}
+use Rattle.flow_views.specs.Views.{analysis_name, chosen_analyses, is_chosen, known_facts, label_name, labels_at, marks_at, points_in, procedure_name}
 use Rattle.flow_views.specs.Views.{shown_points}
 use Rattle.flow_views.specs.Views.{end_shown, first_shown}
 use Rattle.flow_views.specs.code.ViewProgram.{IsShownProcedure, TellSame}
@@ -56,12 +57,12 @@ pub same_chosen : {A : Type 0} (f g : Analysis → List A) (chosen : Chosen)
 same_chosen f g chosen same = same_filtered f g (is_chosen chosen) all.ALL same
 
 -- of the sides of a point, of which the one behind stands there only for a statement that is no call
-same_mapped : {A B : Type 0} (f g : A → B) (xs : List A) → ((x : A) → Contains xs x → f x ≡ g x) → map f xs ≡ map g xs
-same_mapped f g [] same = refl
-same_mapped f g (x ∷ xs) same =
+same_among : {A B : Type 0} (f g : A → List B) (xs : List A) → ((x : A) → Contains xs x → f x ≡ g x) → flat_map f xs ≡ flat_map g xs
+same_among f g [] same = refl
+same_among f g (x ∷ xs) same =
     let first = same x (Contains-first x xs) in
-    let rest = same_mapped f g xs (λ y among. same y (Contains-later x xs y among)) in
-    λ i. first i ∷ rest i
+    let rest = same_among f g xs (λ y among. same y (Contains-later x xs y among)) in
+    λ i. first i ++ rest i
 
 behind_there : (program : Program) (view : View) (point : ℕ) (side : Side) → side ≡ Behind → Contains (sides program view point) side
     → has_behind program point ≡ true
@@ -184,39 +185,45 @@ module _ (program : Program) (sound : IsSound program) (one other : Knowledge) (
 
     same_lines_of : (analysis : Analysis) → is_chosen chosen analysis ≡ true
         → fact_lines program one view point analysis ≡ fact_lines program other view point analysis
-    same_lines_of analysis is = same_mapped (fact_line program one view point analysis) (fact_line program other view point analysis)
+    same_lines_of analysis is = same_among (lines_on program one view point analysis) (lines_on program other view point analysis)
         (sides program view point)
-        (λ side among. ap (λ (set : ℕ → Bool). line analysis side set) (same_set analysis is side among))
+        (λ side among. ap (λ (set : ℕ → Bool). lines analysis side set) (same_set analysis is side among))
       where
-        line : Analysis → Side → (ℕ → Bool) → List ℕ
-        line analysis side set =
-            analysis_name analysis ++ side_text side
-            ++ listed (map (bit_text program analysis) (shown_bits program analysis look.hides_entry set))
+        lines : Analysis → Side → (ℕ → Bool) → List (List ℕ)
+        lines analysis side set =
+            set_lines (analysis_name analysis ++ side_text side) (map (bit_text program analysis) (shown_bits program analysis look.hides_entry set))
 
-    same_label : label_lines program one view point ≡ label_lines program other view point
-    same_label =
-        let lines = same_chosen (fact_lines program one view point) (fact_lines program other view point) chosen same_lines_of in
-        λ i. map (label_title program point) (labels_at program point) ++ title program point ∷ map (remark_text program) (same_remarks program sound one other agree point below i) ++ lines i
+    same_facts : facts_in_lines program one view point ≡ facts_in_lines program other view point
+    same_facts =
+        same_chosen (λ analysis. flat_map label_line (fact_lines program one view point analysis))
+        (λ analysis. flat_map label_line (fact_lines program other view point analysis)) chosen
+        (λ analysis is. ap (flat_map label_line) (same_lines_of analysis is))
 
-    same_path_marks : path_marks program one point ≡ path_marks program other point
-    same_path_marks = λ i.
-        if agree.flags point below i
-        then text_if_some (same_unset program sound one other agree point below i) (codes ", color=red, fontcolor=red")
-        ++ text_if_some (same_dead program sound one other agree point below i) (codes ", style=filled, fillcolor=khaki")
-        else codes ", style=filled, fillcolor=grey80"
+    same_label : label_text program one view point ≡ label_text program other view point
+    same_label = λ i.
+        flat_map (λ label. label_line (label_title program point label)) (labels_at program point) ++ label_line (title program point)
+        ++ flat_map (λ remark. label_line (remark_text program remark)) (same_remarks program sound one other agree point below i)
+        ++ text_if (not look.hovers) (same_facts i)
 
-    same_marks : marks program one point ≡ marks program other point
-    same_marks = λ i. same_path_marks i ++ (if agree.doubtful point below i then codes ", peripheries=2" else [])
+    same_marks : marks_at program one point ≡ marks_at program other point
+    same_marks = λ i. record {
+      reached = agree.flags point below i;
+      unset = agree.flags point below i && some_stand (same_unset program sound one other agree point below i);
+      dead = agree.flags point below i && some_stand (same_dead program sound one other agree point below i);
+      doubtful = agree.doubtful point below i;
+    }
 
     same_node : node program one view point ≡ node program other view point
     same_node = λ i.
-        codes "    " ++ decimal point ++ codes " [label=\"" ++ flat_map label_line (same_label i) ++ codes "\""
-        ++ same_marks i ++ codes "];\n"
+        codes "    " ++ decimal point
+        ++ (node_names point (same_marks i) ++ same_label i ++ codes "\"" ++ text_if look.hovers (codes ", tooltip=\"" ++ same_facts i ++ codes "\"")
+        ++ look_of (same_marks i) ++ codes "];\n")
 
   same_cluster : (number : ℕ) → number < length program.procedures → IsShownProcedure procedure number
       → cluster program one view number ≡ cluster program other view number
   same_cluster number below is = ap
       (λ nodes. codes "  subgraph \"cluster_" ++ decimal number ++ codes "\" {\n"
+      ++ codes "    id=\"procedure" ++ decimal number ++ codes "\";\n    class=\"procedure\";\n"
       ++ codes "    label=" ++ quoted (procedure_name program number) ++ codes ";\n"
       ++ nodes ++ codes "  }\n")
       (same_points program procedure (node program one view) (node program other view) same_node number below is)
@@ -244,7 +251,8 @@ module _ (program : Program) (sound : IsSound program) (one other : Knowledge) (
   -- the picture, without its last line and with it
   pub same_open : open_dot program one view ≡ open_dot program other view
   same_open =
-      ap (λ clusters. head ++ clusters ++ flat_map (edge_lines program view) (shown_points program view)) (same_clusters procedure refl)
+      ap (λ clusters. head ++ clusters ++ flat_map (edge_lines program view) (shown_points program view) ++ text_if look.legend legend)
+      (same_clusters procedure refl)
 
   pub same_dot : dot_of program one view ≡ dot_of program other view
   same_dot = ap (λ text. text ++ codes "}\n") same_open

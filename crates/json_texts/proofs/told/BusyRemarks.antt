@@ -4,7 +4,8 @@ use Rattle.std.proofs.Common.{if◌then◌else◌, refl, sym, ap, ap₂, append-
 use Rattle.std.proofs.lemmas.Grind.{flat_map-append}
 use Rattle.flow_graph.specs.Points.{kind_at}
 use Rattle.flow_graph.specs.declared.analysis.Analysis.TheVariants.{Busy}
-use Rattle.flow_reports.specs.Reports.{Knowledge, busy_at, computed_at, dead_at, is_test, remarks_at, remarks_when_reached, unset_at}
+use Rattle.flow_reports.specs.Reports.{Knowledge, busy_at, computed_at, dead_at, remarks_at, remarks_when_reached, unset_at}
+use Rattle.report_answers.specs.Statements.{is_test}
 use Rattle.flow_reports.specs.declared.remark.Remark.{Remark}
 use Rattle.flow_reports.specs.declared.remark.Remark.TheVariants.{NeverReached, Unset, Computed, VeryBusy, Dead}
 use Rattle.flow_texts.specs.Tables.{bits_at}

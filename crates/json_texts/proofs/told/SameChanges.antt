@@ -5,7 +5,7 @@ use Rattle.flow_graph.specs.Edges.{edges_from}
 use Rattle.flow_graph.specs.Paths.{target_of}
 use Rattle.flow_graph.specs.Points.{place_of, point_count, procedure_at}
 use Rattle.flow_graph.specs.declared.analysis.Analysis.{Analysis}
-use Rattle.flow_reports.specs.Reports.{Knowledge}
+use Rattle.flow_reports.specs.Reports.{Knowledge, remarks_at}
 use Rattle.flow_reports.specs.declared.remark.Remark.{Remark}
 use Rattle.flow_reports.proofs.knowledge.KnownReports.{Agree, same_remarks}
 use Rattle.flow_team.specs.Tables.{Facts}
@@ -24,8 +24,8 @@ use Rattle.flow_views.specs.declared.view.View.{View}
 use Rattle.flow_views.proofs.facts.Ahead.{before_shown}
 use Rattle.flow_views.proofs.facts.Behind.{next_shown, same_set_on}
 use Rattle.flow_views.proofs.texts.SameTexts.{same_chosen, same_shown, shown_below}
-use Rattle.json_texts.specs.Changes.{behind_changes, busy_line, change_fields, changed_point_line, changed_remarks, changes_field, json_changes}
-use Rattle.json_texts.specs.Changes.{named_program_line, remark_alone, set_ahead, very_busy}
+use Rattle.json_texts.specs.Changes.{behind_changes, busy_line, change_fields, changed_point_line, changed_remarks, changes_field, changes_with}
+use Rattle.json_texts.specs.Changes.{json_changes, named_program_line, remark_alone, set_ahead, very_busy}
 
 module _ (program : Program) (sound : IsSound program) (one other : Knowledge) (agree : Agree program one other) (chosen : Chosen)
     (procedure : Option ℕ) (look : Look) (there : IfSome procedure (λ p. p < length program.procedures))
@@ -112,6 +112,17 @@ module _ (program : Program) (sound : IsSound program) (one other : Knowledge) (
         (λ (remarks : List Remark). flat_map (remark_alone chosen.busy program point) remarks
         ++ (if chosen.busy then busy_line program point (flat_map very_busy remarks) else []))
         (same_remarks program sound one other agree point below)
+
+  -- the lines with the remarks in any form
+  pub same_changes_with : (object : Program → ℕ → Remark → List ℕ) → changes_with object program one view ≡ changes_with object program other view
+  same_changes_with object =
+      let points = same_shown program procedure there (changed_point_line program one chosen) (changed_point_line program other chosen)
+      same_point chosen look in
+      let remarks = same_shown program procedure there (λ point. flat_map (object program point) (remarks_at program one point))
+      (λ point. flat_map (object program point) (remarks_at program other point))
+      (λ point at. ap (flat_map (object program point))
+      (same_remarks program sound one other agree point (shown_below program procedure there point at))) chosen look in
+      λ i. named_program_line program ++ points i ++ remarks i
 
   pub same_changes : json_changes program one view ≡ json_changes program other view
   same_changes =

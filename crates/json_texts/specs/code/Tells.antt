@@ -1,7 +1,8 @@
 -- Where remarks tell of very busy expressions.
 use Rattle.std.specs.Prelude.{ℕ, Bool, false, not, ◌&&◌, option_map, unwrap_or}
 use Rattle.flow_graph.specs.Points.{kind_at}
-use Rattle.flow_reports.specs.Reports.{Knowledge, is_test}
+use Rattle.flow_reports.specs.Reports.{Knowledge}
+use Rattle.report_answers.specs.Statements.{is_test}
 use Rattle.tac_program.specs.Programs.{Program}
 
 -- whether a test stands at the point

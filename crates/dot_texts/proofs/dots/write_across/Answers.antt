@@ -1,11 +1,7 @@
-use Rattle.std.proofs.Common.{◌++◌, codes, decimal, ap}
-use Rattle.text_pieces.proofs.sinks.Taking.{takes_as, takes_then}
-use Rattle.flow_views.specs.Dots.{across, arrow}
+use Rattle.text_pieces.proofs.sinks.Taking.{takes_then}
 use Rattle.dot_texts.proofs.dots.write_across.Goals as goal
 
 pub returns : goal.returns
 returns g c =
-    takes_as _ _ _ _
-    (takes_then _ _ _ _ _ (takes_then _ _ _ _ _ (takes_then _ _ _ _ _ (takes_then _ _ _ _ _ c.write_arrow.ensures
-    c.write.ensures) c.write-2.ensures) c.write_number.ensures) c.write-3.ensures)
-    (ap (λ n. arrow c.args.source c.args.target ++ across ++ c.args.word.now ++ decimal n ++ codes "\"];\n") c.line.ensures)
+    takes_then _ _ _ _ _ (takes_then _ _ _ _ _ (takes_then _ _ _ _ _ (takes_then _ _ _ _ _ (takes_then _ _ _ _ _ (takes_then _ _ _ _ _
+    c.write.ensures c.write-2.ensures) c.write-3.ensures) c.write-4.ensures) c.write-5.ensures) c.write_number.ensures) c.write-6.ensures

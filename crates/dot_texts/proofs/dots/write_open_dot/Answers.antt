@@ -3,4 +3,5 @@ use Rattle.dot_texts.proofs.dots.write_open_dot.Goals as goal
 
 pub returns : goal.returns
 returns g c =
-    takes_then _ _ _ _ _ (takes_then _ _ _ _ _ c.write_head.ensures c.write_shown_clusters.ensures) c.write_all_points.ensures
+    takes_then _ _ _ _ _ (takes_then _ _ _ _ _ (takes_then _ _ _ _ _ c.write_head.ensures c.write_shown_clusters.ensures)
+    c.write_all_points.ensures) c.write_legend.ensures

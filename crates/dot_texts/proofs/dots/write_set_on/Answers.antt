@@ -1,8 +1,9 @@
-use Rattle.std.proofs.Common.{◌≡◌, ℕ, Bool, ◌&&◌, filter, map, ap, subst, ◌∙◌, arith}
+use Rattle.std.proofs.Common.{◌≡◌, ℕ, Bool, ◌&&◌, filter, map, sym, ap, subst, ◌∙◌, arith}
+use Rattle.std.proofs.lemmas.Simd.{map-map}
 use Rattle.std.specs.List.{range_with_len}
 use Rattle.flow_graph.specs.Universes.{bits}
 use Rattle.flow_graph.specs.declared.analysis.Analysis.{Analysis}
-use Rattle.flow_texts.specs.Tables.{bit_text, listed}
+use Rattle.flow_texts.specs.Tables.{bit_text}
 use Rattle.flow_texts.proofs.sets.ListTexts.{map-members}
 use Rattle.text_pieces.specs.code.Blocks.{SeparatedTexts}
 use Rattle.text_pieces.specs.code.Lists.{text_at}
@@ -11,6 +12,7 @@ use Rattle.text_pieces.proofs.sinks.Taking.{takes_as}
 use Rattle.tac_program.specs.Programs.{Program}
 use Rattle.flow_team.specs.Tables.{Facts, TableFacts, facts_of}
 use Rattle.point_sets.specs.Sets.{is_bit_shown, set_on, shown_bits}
+use Rattle.point_sets.specs.code.Lines.{set_from}
 use Rattle.point_sets.specs.declared.side.Side.{Side}
 use Rattle.flow_views.specs.code.Names.{AreNamesOf}
 use Rattle.flow_views.specs.code.ViewProgram.{known_of}
@@ -18,7 +20,6 @@ use Rattle.flow_views.specs.declared.names.NameForm.{NameForm}
 use Rattle.flow_views.specs.declared.names.NameForm.TheVariants.{Escaped}
 use Rattle.flow_views.specs.Views.{known_facts}
 use Rattle.flow_views.proofs.facts.Sides.{next_there, same_set}
-use Rattle.flow_views.proofs.texts.Rows.{escaped_listed}
 use Rattle.dot_texts.proofs.dots.write_set_on.Goals as goal
 
 -- the names of the table's analysis
@@ -26,10 +27,6 @@ named : (form : NameForm) (program : Program) (asked analysis : Analysis) (names
     → AreNamesOf form program asked names → AreNamesOf Escaped program analysis names
 named form program asked analysis names is same are =
     subst (λ (a : Analysis). AreNamesOf Escaped program a names) same (subst (λ (f : NameForm). AreNamesOf f program asked names) is are)
-
-pub write_point_set-requires-clause-commas : goal.write_point_set-requires-clause-commas
-write_point_set-requires-clause-commas g c =
-    (named _ c.args.shown.now.found.graph.now _ c.args.table.now.analysis c.names.result.now c.requires.form c.analysis.ensures c.names.ensures).separated
 
 pub write_point_set-requires-clause-set : goal.write_point_set-requires-clause-set
 write_point_set-requires-clause-set g c = record {
@@ -60,10 +57,10 @@ returns g c =
     named _ program _ analysis names c.requires.form c.analysis.ensures c.names.ensures in
     let told : ℕ → Bool = λ bit. set_on side program analysis (facts_of table) point bit && is_bit_shown program analysis hides bit in
     takes_as _ _ _ _ c.write_point_set.ensures
-    (ap listed
+    (ap (set_from c.args.column)
     (ap (λ n. map (text_at names.texts) (filter told (range_with_len 0 n))) c.requires.table.bits
     ∙ map-members (text_at names.texts) (λ bit. escaped (bit_text program analysis bit)) told 0 (bits program analysis)
     (λ n below. held.texts.each n (omega (arith, below)))
     ∙ ap (λ (set : ℕ → Bool). map (λ bit. escaped (bit_text program analysis bit)) (shown_bits program analysis hides set))
-    (same_set c.args.shown.now c.requires.shown table c.requires.table point c.requires.shows c.requires.point side c.requires.side))
-    ∙ escaped_listed (bit_text program analysis) (shown_bits program analysis hides (set_on side program analysis facts point)))
+    (same_set c.args.shown.now c.requires.shown table c.requires.table point c.requires.shows c.requires.point side c.requires.side)
+    ∙ sym (map-map escaped (bit_text program analysis) (shown_bits program analysis hides (set_on side program analysis facts point)))))

@@ -1,7 +1,7 @@
 use Rattle.std.proofs.Common.{◌≡◌, ◌∙◌, Some, true, false, option_map, ap, sym}
 use Rattle.flow_graph.specs.Points.{kind_at}
 use Rattle.flow_graph.proofs.places.Standing.{stands}
-use Rattle.flow_reports.proofs.knowledge.RemarkLines.{next_below}
+use Rattle.report_answers.proofs.queries.Statements.{next_below}
 use Rattle.flow_reports.specs.code.Findings.{knowledge_of}
 use Rattle.tac_program.specs.Programs.{Program}
 use Rattle.tac_program.specs.declared.program.Stmt.{Stmt}

@@ -3,7 +3,7 @@ use Rattle.std.specs.Prelude.{All}
 use Rattle.std.proofs.lemmas.Result.{on_ok_weaker}
 use Rattle.flow_graph.specs.declared.analysis.Analysis.TheVariants.{Reach}
 use Rattle.flow_graph.specs.Universes.{bits}
-use Rattle.flow_reports.proofs.knowledge.RemarkLines.{variables_have_dummies}
+use Rattle.report_answers.proofs.queries.Statements.{variables_have_dummies}
 use Rattle.gen_kill.specs.Selections.{Selection, column_count}
 use Rattle.tac_program.specs.Programs.{Program}
 use Rattle.flow_paths.specs.code.UnsetPaths.{IsUnsetUse, IsWitnessed}

@@ -3,6 +3,4 @@ use Rattle.dot_texts.proofs.dots.DotNodesPointForm.write_point.Goals as goal
 
 pub returns : goal.returns
 returns g c =
-    takes_then _ _ _ _ _ (takes_then _ _ _ _ _ (takes_then _ _ _ _ _ (takes_then _ _ _ _ _ (takes_then _ _ _ _ _
-    (takes_then _ _ _ _ _ c.write.ensures c.write_number.ensures) c.write-2.ensures)
-    c.write_label.ensures) c.write-3.ensures) c.write_marks.ensures) c.write-4.ensures
+    takes_then _ _ _ _ _ (takes_then _ _ _ _ _ c.write.ensures c.write_number.ensures) c.write_node.ensures

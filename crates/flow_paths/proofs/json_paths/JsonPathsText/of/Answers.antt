@@ -11,8 +11,8 @@ use Rattle.flow_views.specs.code.ViewProgram.{AreShown, known_of}
 use Rattle.flow_views.specs.declared.view_program.ViewProgram.{ViewProgram}
 use Rattle.flow_views.specs.declared.view.View.{View}
 use Rattle.flow_views.proofs.facts.Known.{all_of, all_of_is, known_agrees, known_all}
-use Rattle.flow_views.proofs.texts.SameTexts.{same_json_with}
 use Rattle.flow_paths.specs.declared.doubts.Doubt.{Doubt}
+use Rattle.flow_paths.proofs.lists.SameLines.{same_lines_with}
 use Rattle.flow_paths.proofs.json_paths.JsonPathsText.of.Goals as goal
 
 pub returns : goal.returns
@@ -29,9 +29,9 @@ returns c =
     let doubted : (known : Knowledge) → IsKnowledge program known → AreDoubts program known c.args.view list =
     subst (λ (p : Program). (known : Knowledge) → IsKnowledge p known → AreDoubts p known c.args.view list) (sym c.in_ok-shown.ensures.program)
     c.in_ok-around.ensures.doubts in
-    let text : List ℕ = json_with_paths (hops_at c.in_ok-paths.paths) sets list program (known_of shown) shown.view in
-    subst (λ (p : Program). IsJsonWithPaths p c.args.view text) c.in_ok-shown.ensures.program
-    (subst (λ (v : View). IsJsonWithPaths program v text) c.in_ok-shown.ensures.view
+    let text : List ℕ = json_with_paths c.args.changes (hops_at c.in_ok-paths.paths) sets list program (known_of shown) shown.view in
+    subst (λ (p : Program). IsJsonWithPaths c.args.changes p c.args.view text) c.in_ok-shown.ensures.program
+    (subst (λ (v : View). IsJsonWithPaths c.args.changes program v text) c.in_ok-shown.ensures.view
     record {
       known = all_of shown are;
       is_known = all_of_is shown are;
@@ -43,6 +43,6 @@ returns c =
       are_doubts = subst (λ (v : View). AreDoubts program (all_of shown are) v list) (sym c.in_ok-shown.ensures.view)
           (doubted (all_of shown are) (all_of_is shown are));
       is_text = ap (λ lines. lines ++ flat_map (doubt_line program) list ++ end_line program shown.view)
-          (same_json_with program are.found.sound (known_of shown) (all_of shown are) (known_agrees shown are) shown.view.facts
+          (same_lines_with c.args.changes program are.found.sound (known_of shown) (all_of shown are) (known_agrees shown are) shown.view.facts
           shown.view.procedure shown.view.look are.procedure (known_all shown are) object);
     })

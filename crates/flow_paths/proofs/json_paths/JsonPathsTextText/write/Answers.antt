@@ -1,8 +1,7 @@
 use Rattle.std.proofs.Common.{ℕ, List}
 use Rattle.text_pieces.proofs.sinks.Taking.{takes_as, takes_then}
-use Rattle.flow_views.specs.Json.{json_with}
 use Rattle.flow_views.specs.code.ViewProgram.{known_of}
-use Rattle.flow_paths.specs.Paths.{remark_with_path}
+use Rattle.flow_paths.specs.Paths.{lines_with, remark_with_path}
 use Rattle.flow_paths.specs.code.Arounds.{around_at, sets_of}
 use Rattle.flow_paths.specs.code.UnsetPaths.{hops_at}
 use Rattle.flow_paths.proofs.lists.Telling.{same_lines}
@@ -12,10 +11,10 @@ pub returns : goal.returns
 returns g c =
     let shown = c.self.inside.shown in
     let json : List ℕ =
-    json_with (remark_with_path (hops_at c.self.inside.paths) (sets_of (around_at c.self.inside.around.arounds))) shown.found.graph.now
+    lines_with c.self.inside.changes (remark_with_path (hops_at c.self.inside.paths) (sets_of (around_at c.self.inside.around.arounds))) shown.found.graph.now
     (known_of shown) shown.view in
     let doubts =
     same_lines json c.self.inside.graph.now shown.found.graph.now c.deref.result.now c.self.inside.around.doubts.items
     c.self.invariant.2 c.deref.ensures.value in
-    takes_as _ _ _ _ (takes_then _ _ _ _ _ (takes_as _ _ _ _ (takes_then _ _ _ _ _ c.write_json.ensures c.write_doubts.ensures) doubts)
+    takes_as _ _ _ _ (takes_then _ _ _ _ _ (takes_as _ _ _ _ (takes_then _ _ _ _ _ c.write_lines.ensures c.write_doubts.ensures) doubts)
     c.write_end.ensures) c.self.view_is

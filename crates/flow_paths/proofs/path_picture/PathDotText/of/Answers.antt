@@ -15,7 +15,7 @@ use Rattle.flow_views.proofs.texts.SameTexts.{same_open}
 use Rattle.flow_why.specs.Witnesses.{IsWitness}
 use Rattle.flow_why.specs.declared.hop.Hop.{Hop}
 use Rattle.tac_program.specs.Programs.{Program}
-use Rattle.flow_paths.specs.Pictures.{IsDotWithPath, LacksUse, first_use, is_named, is_point_shown, marked_dot}
+use Rattle.flow_paths.specs.Pictures.{IsDotWithPath, LacksUse, first_use, is_named, is_point_shown, marked_dot, path_legend}
 use Rattle.flow_paths.specs.code.Doubted.{is_shown}
 use Rattle.flow_paths.specs.code.UnsetPaths.{IsUnsetUse, hops_at}
 use Rattle.flow_paths.proofs.lists.Pictured.{asked_is, named_holds, none_found, one_witness}
@@ -86,7 +86,8 @@ returns c =
     let picture : open_dot program (known_of shown) shown.view ≡ open_dot program (all_of shown are) shown.view =
     same_open program are.found.sound (known_of shown) (all_of shown are) (known_agrees shown are) shown.view.facts shown.view.procedure
     shown.view.look are.procedure (known_all shown are) in
-    let out : List ℕ = marked_dot (is_shown points) (open_dot program (known_of shown) shown.view) hops one.point in
+    let more : List ℕ = path_legend shown.view.look.legend in
+    let out : List ℕ = marked_dot (is_shown points) (open_dot program (known_of shown) shown.view) hops one.point more in
     subst (λ (p : Program). IsDotWithPath p c.args.view text out) is
     (subst (λ (v : View). IsDotWithPath program v text out) seen
     record {
@@ -96,5 +97,5 @@ returns c =
       is_asked = sym (asked_is shown are uses told text) ∙ here;
       hops = hops;
       is_witness = subst (λ (p : Program). IsWitness (shape_of p) (transfer_of p Reach one.variable) one.point hops) (sym is) witness;
-      is_text = ap₂ (λ (f : ℕ → Bool) (open_text : List ℕ). marked_dot f open_text hops one.point) shows picture;
+      is_text = ap₂ (λ (f : ℕ → Bool) (open_text : List ℕ). marked_dot f open_text hops one.point more) shows picture;
     })

@@ -1,9 +1,8 @@
-use Rattle.std.proofs.Common.{false}
+use Rattle.std.proofs.Common.{◌-◌}
+use Rattle.point_sets.specs.code.Lines.{Lays, names_among}
 use Rattle.text_pieces.specs.Pieces.{outlet}
-use Rattle.flow_texts.specs.code.Members.{Wrote, chosen}
-use Rattle.point_sets.specs.code.PointSets.{shows}
 use Rattle.point_sets.proofs.point_set.PointSet.write_bits.Given as goal
 
 abbrev pub invariant-loop-bit : goal.invariant-loop-bit
 invariant-loop-bit g l =
-    Wrote l.texts.between (chosen l.texts.texts (shows l.self)) false 0 l.bit (outlet g.K.Sink l.fn.out) (outlet g.K.Sink l.out) l.others
+    Lays (names_among l.fn.self l.fn.texts.texts l.fn.first (l.bit - l.fn.first)) l.fn.line (outlet g.K.Sink l.fn.out) (outlet g.K.Sink l.out) l.last
