@@ -62,7 +62,8 @@ class Task:
     """How a program is to be analysed.
 
     own: the files of which this program is the judge, should others take them in; None where there
-    are no other programs. kinds: what is told.
+    are no other programs. kinds: what is told. report: where it is not made by tacview here, what
+    makes the report on a text and tells what else was said.
     """
 
     own: frozenset[str] | None = None
@@ -71,6 +72,7 @@ class Task:
     keep: str | None = None
     processes: int = 1
     kinds: frozenset[str] = frozenset(KINDS)
+    report: Callable[[list[str]], tuple[str, list[str]]] | None = None
 
 
 @dataclass
@@ -302,7 +304,7 @@ class Analysis:
         world = World(self.files, self.task.is_whole, outside)
         built = program.build(world, self.task.shows_all)
         written = emit.Writer().write(built.procedures)
-        told, said = run_tacview(written.pieces, self.workers)
+        told, said = self.report(written.pieces)
         if self.task.keep:
             keep(self.task.keep, written, told)
         written.pieces.clear()  # the text is in use no more
@@ -326,6 +328,12 @@ class Analysis:
         part = Outcome(found.remarks, seen=self.seen_in(found), notes=said)
         part.lines.take(self.sources, part.remarks.values())
         self.parts.append(part)
+
+    def report(self, pieces: list[str]) -> tuple[str, list[str]]:
+        """The report on a text, and what was said on standard error."""
+        if self.task.report is not None:
+            return self.task.report(pieces)
+        return run_tacview(pieces, self.workers)
 
     def show_ways(self, found: Findings) -> None:
         """Has remarks on what may be unset show the way on which it is."""
@@ -397,13 +405,17 @@ def run_tacview(pieces: list[str], workers: int, *words: str) -> tuple[str, list
     """What tacview writes of a program by so many workers, its report unless words ask for other
     things, and what it says on standard error, as that it runs unproved.
     """
+    words = words or ("--format", "report")
+    with tempfile.TemporaryFile("w+", encoding="ascii") as text:
+        text.writelines(pieces)
+        text.seek(0)
+        return answered("--limits", "large", "--workers", str(workers), *words, stdin=text)
+
+
+def answered(*words: str, **given: Any) -> tuple[str, list[str]]:
+    """What tacview answers to words, and what it says on standard error. given: its input."""
     try:
-        words = words or ("--format", "report")
-        words = ("--limits", "large", "--workers", str(workers), *words)
-        with tempfile.TemporaryFile("w+", encoding="ascii") as text:
-            text.writelines(pieces)
-            text.seek(0)
-            done = subprocess.run([tacview(), *words], stdin=text, capture_output=True, check=False)
+        done = subprocess.run([tacview(), *words], **given, capture_output=True, check=False)
     except OSError as fault:
         raise Refusal(f"{tacview()}: {fault.strerror}") from None
     said = done.stderr.decode("utf-8", "replace").strip().splitlines()
@@ -411,7 +423,13 @@ def run_tacview(pieces: list[str], workers: int, *words: str) -> tuple[str, list
         raise Refusal(
             f"tacview failed with the status {done.returncode}" + (f": {said[-1]}" if said else "")
         )
-    return done.stdout.decode("ascii"), said
+    return done.stdout.decode(), said
+
+
+def part_of_report(text: bytes, number: int, count: int) -> str:
+    """A part of the report on a text, of so many."""
+    words = ("--limits", "large", "--format", "report", "--part", f"{number}/{count}")
+    return answered(*words, input=text)[0]
 
 
 def read_facts(

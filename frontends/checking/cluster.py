@@ -1,7 +1,7 @@
-"""A cluster of Dask's that makes shares.
+"""A cluster of Dask's that makes shares, and the report on a program in parts.
 
-Its workers start a process for each share, by the check-c that has the same path there: nothing of
-ours is loaded into them, and nothing is left of what an earlier run read.
+Its workers start a process for each share and each part, by the check-c that has the same path
+there: nothing of ours is loaded into them, and nothing is left of what an earlier run read.
 """
 
 from __future__ import annotations
@@ -11,6 +11,7 @@ import json
 import logging
 import os
 import subprocess
+import tempfile
 import time
 import warnings
 from collections.abc import Iterator
@@ -20,10 +21,11 @@ from typing import TYPE_CHECKING, Any
 
 from gimple.faults import Refusal
 
-from .analysis import HERE
+from .analysis import HERE, answered, part_of_report
 from .compiling import BadWords, Unusable
 from .facts import decoded
-from .makers import ENVIRONMENT, makers
+from .makers import ENVIRONMENT, makers, report_makers
+from .part import FAILED
 from .shares import found_or_made
 from .sums import sum_of
 
@@ -40,8 +42,10 @@ SENT = (
     *("GCC", "TACVIEW", *ENVIRONMENT, "LANG", "LANGUAGE", "LC_ALL", "LC_CTYPE", "LC_MESSAGES"),
     *("PYTHONPYCACHEPREFIX", "PYTHONDONTWRITEBYTECODE"),
 )
-# What a worker runs: it tells its machine's name, and then the share.
-SCRIPT = 'uname -n && cd -- "$0" && exec python3 -m checking.job'
+# What a worker runs: it tells its machine's name, and then the share or the part.
+SCRIPT = 'uname -n && cd -- "$0" && exec python3 -m "$@"'
+# A program's report is made in at most so many parts.
+PARTS = 64
 # Seconds: until the scheduler has to answer, between two looks at one that tells nothing, and until
 # a cluster without workers is given up.
 ANSWERING = 15
@@ -50,11 +54,13 @@ ALONE = 60
 
 
 class Failed(Exception):
-    """What kept a worker from making a share; another one, or this process, may make it."""
+    """What kept a worker from its work; another one, or this process, may do it."""
 
 
 class Cluster:
     """The workers of a scheduler."""
+
+    count = 1
 
     def __init__(self, address: str) -> None:
         self.address = address
@@ -79,7 +85,10 @@ class Cluster:
             for number, text in enumerate(jobs):
                 # an impure one: what ran before, for whomever, is not taken for it
                 future = client.submit(
-                    subprocess.run, command(), input=text, capture_output=True, pure=False
+                    *(subprocess.run, command("checking.job")),
+                    input=text,
+                    capture_output=True,
+                    pure=False,
                 )
                 waiting[future.key] = (number, future)
                 future.add_done_callback(done.put)
@@ -92,6 +101,61 @@ class Cluster:
                     continue
                 number, _ = waiting.pop(future.key)
                 yield number, self.share_of(client, future, making, groups[number], cache)
+
+    def report(self, pieces: list[str]) -> tuple[str, list[str]]:
+        """The report on a text, of which each worker makes a part for each of its threads; merged
+        here.
+        """
+        text = "".join(pieces).encode("ascii")
+        head = json.dumps(report_makers()).encode("ascii") + b"\n"
+        with self.client() as client:
+            given = self.scattered(client, head + text)
+            count = min(self.threads(client), PARTS)
+            futures = [
+                client.submit(
+                    *(subprocess.run, command("checking.part", str(number), str(count))),
+                    input=given,
+                    capture_output=True,
+                    pure=False,
+                )
+                for number in range(1, count + 1)
+            ]
+            parts = []
+            said = []
+            for number, future in enumerate(futures, 1):
+                try:
+                    parts.append(self.part_of(client, future))
+                except Failed as failed:
+                    parts.append(part_of_report(text, number, count))
+                    said.append(f"part {number} failed on the cluster, and not here: {failed}")
+        merged, more = merged_parts(parts)
+        return merged, said + more
+
+    def scattered(self, client: Any, data: bytes) -> Any:
+        """Data that is sent to each worker once, as soon as there is one."""
+        while True:
+            try:
+                return client.scatter(data, broadcast=True, hash=False, timeout=BETWEEN)
+            except self.dask.TimeoutError:
+                self.look_after(client)
+
+    def threads(self, client: Any) -> int:
+        """How many processes the workers start side by side, at least one."""
+        known = client.sync(client.scheduler.identity)
+        return max(1, sum(worker["nthreads"] for worker in known["workers"].values()))
+
+    def part_of(self, client: Any, future: Any) -> str:
+        """The part that a worker made."""
+        try:
+            done = self.result_of(client, future)
+        except Unusable:
+            # a text that is gone with its workers is lost, and the scheduler is still there
+            self.seen = time.monotonic() - BETWEEN
+            self.look_after(client)
+            raise Failed("the text was lost there") from None
+        if done.returncode == FAILED:
+            raise Failed(f"{host_of(done)}: {last_line(done)}")
+        return told_by(done).decode("ascii")
 
     @contextmanager
     def client(self) -> Iterator[Any]:
@@ -159,11 +223,11 @@ class Cluster:
                 return result
 
 
-def command() -> list[str]:
-    """The words by which a worker makes a share."""
+def command(*job: str) -> list[str]:
+    """The words by which a worker does a job: a module of ours with its words."""
     gone = [part for name in SENT if name not in os.environ for part in ("-u", name)]
     there = [f"{name}={os.environ[name]}" for name in SENT if name in os.environ]
-    return ["env", *gone, *there, "sh", "-c", SCRIPT, os.path.dirname(HERE)]
+    return ["env", *gone, *there, "sh", "-c", SCRIPT, os.path.dirname(HERE), *job]
 
 
 def jobs_of(making: Making, groups: list[list[Input]], cache: Cache | None) -> list[bytes]:
@@ -178,20 +242,44 @@ def jobs_of(making: Making, groups: list[list[Input]], cache: Cache | None) -> l
     return [json.dumps(told | {"given": one}).encode("ascii") for one in given]
 
 
+def merged_parts(parts: list[str]) -> tuple[str, list[str]]:
+    """The report that parts make, and what tacview says of it."""
+    with tempfile.TemporaryDirectory() as folder:
+        paths = [os.path.join(folder, str(number)) for number in range(1, len(parts) + 1)]
+        for path, part in zip(paths, parts):
+            with open(path, "w", encoding="ascii") as file:
+                file.write(part)
+        return answered("--merge", *paths, stdin=subprocess.DEVNULL)
+
+
+def host_of(done: Done) -> str:
+    """The machine on which a worker's process ran."""
+    return done.stdout.partition(b"\n")[0].decode("utf-8", "replace") or "a worker"
+
+
+def last_line(done: Done) -> str:
+    """What a worker's process said last, or its status."""
+    said = done.stderr.decode("utf-8", "replace").strip().splitlines()
+    return said[-1] if said else f"status {done.returncode}"
+
+
+def told_by(done: Done) -> bytes:
+    """What a worker's process wrote behind its machine's name, where it did its work."""
+    name = host_of(done)
+    if done.returncode < 0:
+        raise Failed(f"{name}: its process ended by the signal {-done.returncode}")
+    if done.returncode:
+        raise Unusable([f"{name}: {last_line(done)}"])
+    return done.stdout.partition(b"\n")[2]
+
+
 def read_share(done: Done) -> Share:
     """The share that a worker's process wrote, where it was made of what is here, by what is here.
 
     What failed of it is tried again.
     """
-    host, _, told = done.stdout.partition(b"\n")
-    name = host.decode("utf-8", "replace") or "a worker"
-    if done.returncode:
-        said = done.stderr.decode("utf-8", "replace").strip().splitlines()
-        why = said[-1] if said else f"status {done.returncode}"
-        if done.returncode < 0:
-            raise Failed(f"{name}: its process ended by the signal {-done.returncode}")
-        raise Unusable([f"{name}: {why}"])
-    first, _, data = told.partition(b"\n")
+    name = host_of(done)
+    first, _, data = told_by(done).partition(b"\n")
     try:
         facts = decoded(data, f"what {name} sent")
         head = json.loads(first)

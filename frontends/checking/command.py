@@ -60,8 +60,8 @@ def prepare_tacview() -> None:
         )
 
 
-def write(words: Words, remarks: list[Remark], known: Lines) -> None:
-    """Writes the remarks to standard output, with the lines that they stand on."""
+def write(words: Words, remarks: list[Remark], known: Lines, files: list[str]) -> None:
+    """Writes the remarks on files to standard output, with the lines that they stand on."""
     if isinstance(sys.stdout, io.TextIOWrapper):
         sys.stdout.reconfigure(encoding="utf-8", errors="surrogateescape")
     if words.values["--format"] == "json":
@@ -70,6 +70,12 @@ def write(words: Words, remarks: list[Remark], known: Lines) -> None:
         from .makers import version
 
         lines = formats.sarif_lines(remarks, known, version())
+    elif words.values["--format"] == "html":
+        from .page import page
+
+        prepare_tacview()
+        sys.stdout.writelines(page(remarks, known, files))
+        lines = iter(())
     else:
         lines = formats.TextForm(known, formats.has_colours(sys.stdout)).lines(remarks)
     for line in lines:
@@ -126,7 +132,7 @@ def check(words: Words) -> int:
     if words.flags["--merge"]:
         if words.is_linked:
             prepare_tacview()
-        return told(words, making, merged(words, making))
+        return told(words, making, merged(words, making), Processes(words.processes))
     given = inputs_given(words)
     workers = workers_of(words)
     if target is not None and len({one.name for one in given}) != 1:
@@ -136,11 +142,11 @@ def check(words: Words) -> int:
     shares = all_made(making, given, workers, cache_of(words, making))
     if target is not None:
         return emit(target, words.values["-MD"], making, shares[0])
-    return told(words, making, shares)
+    return told(words, making, shares, workers)
 
 
 def workers_of(words: Words) -> Workers:
-    """Who makes the shares: a cluster where the words name one, else processes of this machine."""
+    """Who does the work: a cluster where the words name one, else processes of this machine."""
     address = words.values["--cluster"]
     if address is None:
         return Processes(words.processes)
@@ -195,21 +201,22 @@ def emit(target: str, rule: str | None, making: Making, share: Share) -> int:
     return 0
 
 
-def told(words: Words, making: Making, shares: list[Share]) -> int:
+def told(words: Words, making: Making, shares: list[Share], workers: Workers) -> int:
     """Tells what comes of all shares; answers the status."""
     outcomes = [outcome for share in shares for outcome in share.outcomes]
     if making.is_linked:
-        outcomes = [linked(shares, words.flags["--whole"], making, words.processes)]
+        outcomes = [linked(shares, words.flags["--whole"], making, workers)]
     lines = Lines()
     for outcome in outcomes:
         lines.known.update(outcome.lines.known)
+    files = [share.source for share in shares]
     remarks = in_source_order(
         [
             remark
             for remark in agreed(outcomes).values()
             if remark.kind in words.kinds and not remark.file.startswith(SYSTEM_HEADERS)
         ],
-        [share.source for share in shares],
+        files,
     )
     if words.values["--since"] is not None:
         remarks = changes.changed_since(words.values["--since"], remarks)
@@ -217,7 +224,7 @@ def told(words: Words, making: Making, shares: list[Share]) -> int:
         remarks = baseline.without_known(words.values["--baseline"], remarks)
     if words.values["--write-baseline"] is not None:
         baseline.write(words.values["--write-baseline"], remarks)
-    write(words, remarks, lines)
+    write(words, remarks, lines, files)
     tell_end(words, shares, outcomes, remarks)
     if faults_of(shares, outcomes):
         return 3

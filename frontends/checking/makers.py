@@ -98,9 +98,12 @@ def viewer() -> str:
 def makers(is_linked: bool) -> dict[str, str]:
     """What shares are made by, each with what tells it from others of its name."""
     found = {"check-c": f"{version()} of the sources {build()}", "gcc": compiler()}
-    if not is_linked:
-        found["tacview"] = f"of the sum {viewer()[:16]}" if viewer() else "missing"
-    return found
+    return found if is_linked else found | report_makers()
+
+
+def report_makers() -> dict[str, str]:
+    """What reports are made by, in the same way."""
+    return {"tacview": f"of the sum {viewer()[:16]}" if viewer() else "missing"}
 
 
 def surroundings() -> list[str]:

@@ -149,7 +149,7 @@ def found_or_made(
     return share
 
 
-def linked(shares: list[Share], is_whole: bool, making: Making, workers: int) -> Outcome:
+def linked(shares: list[Share], is_whole: bool, making: Making, workers: Workers) -> Outcome:
     """What comes of the sources as one program, whole where none of them failed."""
     codes = [code for share in shares for code in share.codes]
     if not codes:
@@ -158,7 +158,13 @@ def linked(shares: list[Share], is_whole: bool, making: Making, workers: int) ->
         share.codes = []
     is_missing = is_whole and any(share.faults for share in shares)
     task = Task(
-        None, is_whole and not is_missing, making.shows_all, making.keep, workers, making.kinds
+        None,
+        is_whole and not is_missing,
+        making.shows_all,
+        making.keep,
+        workers.count,
+        making.kinds,
+        workers.report,
     )
     outcome = analyse(task, codes, sources_of(shares))
     if is_missing:

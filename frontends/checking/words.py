@@ -26,7 +26,8 @@ output, as a compiler writes warnings. Each file is a program by itself, unless 
   -p PATH            a compilation database, or the folder that has it: its C files, or those
                      named, with its options
   -j N               up to N processes
-  --format FORM      text (the default), json (an object a line) or sarif (SARIF 2.1.0)
+  --format FORM      text (the default), json (an object a line), sarif (SARIF 2.1.0) or html (a
+                     page that shows the sources with the remarks)
   --baseline FILE    tell only what is not in FILE, which --write-baseline wrote
   --write-baseline FILE
                      write what is told to FILE, for a later --baseline
@@ -39,7 +40,7 @@ output, as a compiler writes warnings. Each file is a program by itself, unless 
                      C file of the database is there
   --cache FOLDER     keep there what came of each C file, and take it from there while all that was
                      read for it is as it was
-  --cluster ADDRESS  have the workers of a Dask scheduler look at the C files
+  --cluster ADDRESS  have the workers of a Dask scheduler do the work
   --all              also remarks on what has no name in the source (gcc's temporaries, address
                      arithmetic), on arguments, and on jumps
   --keep FOLDER      leave the program, its map and tacview's answer there; of several programs the
@@ -89,7 +90,7 @@ TOGETHER = {
     "--cache": ("--merge", "--keep"),
     "--cluster": ("--merge", "--emit"),
 }
-FORMATS = ("text", "json", "sarif")
+FORMATS = ("text", "json", "sarif", "html")
 
 
 def help_text() -> str:

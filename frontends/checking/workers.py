@@ -10,7 +10,7 @@ from .compiling import Unusable
 from .shares import found_or_made, made_next
 
 if TYPE_CHECKING:
-    from collections.abc import Generator
+    from collections.abc import Callable, Generator
 
     from .cache import Cache
     from .compiling import Input
@@ -24,7 +24,15 @@ GONE = "a process of this run was killed, as where memory is out: take fewer wit
 
 
 class Workers(Protocol):
-    """Those who make shares: processes of this machine, or of a cluster."""
+    """Those who make shares, and the report on what these are linked to: processes of this machine,
+    or of a cluster.
+
+    count: how many processes of this machine there may be. report: makes the report on a text, and
+    tells what else was said; None where tacview does it here.
+    """
+
+    count: int
+    report: Callable[[list[str]], tuple[str, list[str]]] | None
 
     def made(self, making: Making, groups: list[list[Input]], cache: Cache | None) -> Made:
         """The shares of all sources, in the order in which they are done, with the sources'
@@ -34,6 +42,8 @@ class Workers(Protocol):
 
 class Processes:
     """Up to so many processes of this machine; by one, this process itself."""
+
+    report = None
 
     def __init__(self, count: int) -> None:
         self.count = count

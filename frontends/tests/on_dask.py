@@ -14,6 +14,7 @@ import subprocess
 import sys
 import time
 from collections.abc import Iterator
+from itertools import zip_longest
 
 from farm import CHECK, HERE, WORDS, Farm, told
 from on_terminal import run_on_terminal, wrong_line
@@ -24,6 +25,13 @@ PYTHONS = (sys.executable, "/usr/bin/python3")
 SLOW = """#!/bin/sh
 case " $* " in *" -S "*) echo >>'{}'; sleep 0.3 ;; esac
 exec {} "$@"
+"""
+# Writes to a file with which words tacview is run. Where there is one more, it removes that and
+# ends at once the next time that it makes the second part of a report.
+VIEWER = """#!/bin/sh
+echo "$*" >>'{0}'
+case " $*" in *" 2/"*) ! rm '{0}.ends' 2>/dev/null || kill -9 $$ ;; esac
+exec {1} "$@"
 """
 BROKEN = "int broken(void) { return missing; }\n"
 # What a worker's machine may have in the place of another program's, and what is told of that.
@@ -45,6 +53,9 @@ class Site:
         self.count = os.path.join(farm.folder, "runs")
         self.slow = os.path.join(farm.folder, "slow")
         write(self.slow, SLOW.format(self.count, os.environ.get("GCC", "gcc")))
+        self.views = os.path.join(farm.folder, "views")
+        self.viewer = os.path.join(farm.folder, "viewer")
+        write(self.viewer, VIEWER.format(self.views, tacview()))
         self.workers: list[subprocess.Popen[bytes]] = []
         words = ["--port", "0", "--no-dashboard", "--no-show"]
         self.scheduler = self.begun("dask_scheduler", words, {})
@@ -95,24 +106,40 @@ class Site:
         return [self.python, CHECK, *WORDS, *words, *where]
 
     def begin(self, words: list[str], address: str = "") -> subprocess.Popen[bytes]:
-        """Begins a run on the cluster, with a slow gcc."""
+        """Begins a run on the cluster, with a slow gcc and a tacview that tells its words."""
         open(self.count, "w").close()
+        open(self.views, "w").close()
         return subprocess.Popen(
             self.command(words, ["--cluster", address or self.address]),
             cwd=self.home,
             stdout=subprocess.PIPE,
             stderr=subprocess.PIPE,
-            env=os.environ | {"GCC": self.slow},
+            env=os.environ | {"GCC": self.slow, "TACVIEW": self.viewer},
         )
 
     def runs(self) -> int:
         """How often gcc was run for a C file in the last run."""
         return os.path.getsize(self.count)
 
+    def parts(self) -> list[str]:
+        """Which parts of a report were made in the last run, and how many of them were merged."""
+        with open(self.views, encoding="utf-8") as file:
+            lines = [line.split() for line in file]
+        made = sorted(words[-1] for words in lines if "--part" in words)
+        return made + [f"{len(words) - 1} merged" for words in lines if words[0] == "--merge"]
+
     def here(self, words: list[str]) -> Told:
         """What processes of this machine answer."""
         command = self.command(words, ["-j", "2"])
-        return told(subprocess.run(command, cwd=self.home, capture_output=True, check=False))
+        env = os.environ | {"TACVIEW": self.viewer}
+        return told(
+            subprocess.run(command, cwd=self.home, capture_output=True, check=False, env=env)
+        )
+
+
+def tacview() -> str:
+    """The program that runs take."""
+    return os.environ.get("TACVIEW", os.path.join(HERE, "..", "..", "tacview"))
 
 
 def write(path: str, text: str) -> None:
@@ -148,6 +175,15 @@ def wrong_on_dask(farm: Farm) -> Iterator[str]:
     yield from unless_refused("no scheduler", said, 3, "--cluster 127.0.0.1:9: Timed out")
 
 
+def difference(found: Told, wanted: Told) -> str:
+    """Where an answer differs from the one that is wanted."""
+    if found[0] != wanted[0]:
+        return f"status {found[0]} in place of {wanted[0]}"
+    pairs = zip_longest(*((one[1] + one[2]).splitlines() for one in (found, wanted)))
+    lines = next(((one, other) for one, other in pairs if one != other), ("nothing", "nothing"))
+    return f"{lines[0]!r} in place of {lines[1]!r}"
+
+
 def has_dask(python: str) -> bool:
     """Whether a Python has what --cluster needs."""
     done = subprocess.run([python, "-c", "import distributed"], capture_output=True, check=False)
@@ -168,7 +204,7 @@ def wrong_answers(site: Site, sources: list[str]) -> Iterator[str]:
     site.workers[0].kill()
     found = ended(run)
     if found != wanted or not has_begun or wanted[0] != 3:
-        yield f"a worker is killed: {found} in place of {wanted}"
+        yield f"a worker is killed: {difference(found, wanted)}"
     # the file that gcc refuses is tried here too
     every = len(files) + 1
     steps: list[tuple[list[str], int]] = [([], every), ([], 2), (["--together"], every)]
@@ -177,7 +213,15 @@ def wrong_answers(site: Site, sources: list[str]) -> Iterator[str]:
         time.sleep(0.1)  # what is as new as a run is not kept
         found = ended(site.begin([*words, "--cache", "cache", *files]))
         if found != wanted or site.runs() != count:
-            yield f"{words}: {site.runs()} runs: {found} in place of {wanted}"
+            yield f"{words}: {site.runs()} runs: {difference(found, wanted)}"
+    # the last run is of one program, by the three workers that are left
+    if site.parts() != ["1/3", "2/3", "3/3", "3 merged"]:
+        yield f"parts of a report: {site.parts()}"
+    open(site.views + ".ends", "w").close()
+    found = ended(site.begin(["--together", *files]))
+    note = b"part 2 failed on the cluster, and not here"
+    if found[:2] != wanted[:2] or note not in found[2]:
+        yield f"a part that fails: {difference(found, wanted)}"
     command = site.command(sources, ["--cluster", site.address])
     yield from wrong_line(run_on_terminal(command, site.home, GCC=site.slow), len(sources))
 

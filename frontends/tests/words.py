@@ -66,7 +66,7 @@ CASES = [
     ("--kinds dead,nothing one.c", 2, r"check-c: nothing is no kind: dead, dead-initial, "),
     ("--kinds= one.c", 2, r"check-c: nothing is no kind"),
     ("--kinds dead --kinds dead one.c", 2, r"--kinds is given twice"),
-    ("--format xml one.c", 2, r"--format is one of text, json, sarif"),
+    ("--format xml one.c", 2, r"--format is one of text, json, sarif, html"),
     ("--whole --together one.c", 2, r"give one of them"),
     ("--whole library.c", 2, r"--whole needs the file that has main"),
     ("-x c++ one.c", 2, r"-x c\+\+: only C is taken"),
@@ -216,6 +216,24 @@ def wrong_sarif(folder: str) -> Iterator[str]:
     found = dict(zip((rule["id"].removeprefix("tacflow-") for rule in rules), numbers))
     if found != WEAKNESSES or not rule["help"]["markdown"].startswith("**dead**"):
         yield f"sarif's rules: {found} {rule}"
+
+
+def wrong_page(folder: str) -> Iterator[str]:
+    """What is wrong with a page: each line of the source, and the remarks at theirs."""
+    page = run("--format html one.c", folder).stdout
+    rows = page.partition('id="lines">\n')[2].partition("</script>")[0].splitlines()
+    told = [json.loads(row) for row in rows]
+    points = [row["statement"] for row in told if row["type"] == "point"]
+    with open(os.path.join(folder, "one.c"), encoding="utf-8") as file:
+        source = file.read().splitlines()
+    remarks = [row for row in told if row["type"] == "remark"]
+    known = [json.loads(row) for row in run("--format json one.c", folder).stdout.splitlines()]
+    if points != source or any("<" in row for row in rows):
+        yield f"a page's lines: {points}"
+    if [(row["point"] + 1, row["line"]) for row in remarks] != [
+        (row["line"], row["line"]) for row in known
+    ]:
+        yield f"a page's remarks: {remarks}"
 
 
 def wrong_prints(folder: str) -> Iterator[str]:
@@ -387,7 +405,7 @@ def in_parts(files: list[str], processes: int = 1, **sizes: int) -> Outcome:
     making = shares.Making(True, False, frozenset(KINDS))
     given = shares.all_made(making, [Input(file) for file in files], Processes(1))
     vars(analysis).update(sizes)
-    outcome = shares.linked(given, False, making, processes)
+    outcome = shares.linked(given, False, making, Processes(processes))
     vars(analysis).update(usual)
     return outcome
 
@@ -483,6 +501,7 @@ def differences() -> list[list[str]]:
         wrong_forms,
         wrong_ways,
         wrong_sarif,
+        wrong_page,
         wrong_prints,
         wrong_since,
         wrong_baselines,
