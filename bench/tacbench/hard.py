@@ -301,6 +301,33 @@ def neighbours(points: int = 16000, bits: int = 4000, procedures: int = 256, see
     return procedures_with(points, bits, procedures, order_of(procedures, seed), both)
 
 
+def crowd(points: int = 16000, bits: int = 4000, procedures: int = 250) -> str:
+    """each procedure may call the next one and the one before, the outer two `main`, which has
+    thousands of calls of the first eight; no way leads to its call of the last"""
+    need(procedures >= 8, "eight procedures are needed")
+    groups = (bits - 2 * procedures - 2) // procedures
+    made = [Procedure("main")]
+    for number in range(procedures):
+        onward = name_of(number + 2) if number + 1 < procedures else "main"
+        back = name_of(number) if number else "main"
+        procedure = Procedure(name_of(number + 1))
+        procedure.add("if v0 goto z", "v%d = 1" % number, "if v0 goto y", "call " + onward, "goto z")
+        procedure.label("y")
+        procedure.add("call " + back)
+        procedure.label("z")
+        made.append(procedure)
+    main = made[0]
+    evaluated = ["x = v%d + %d" % (each, group) for group in range(groups) for each in range(procedures)]
+    calls = points - sum(procedure.points for procedure in made) - len(evaluated) - 3
+    need(calls >= 0, "so few points are too few for this shape")
+    main.add(*["call " + " | ".join(name_of(1 + first) for first in range(8))] * calls, *evaluated)
+    main.add("goto out", "call " + name_of(procedures))
+    main.label("stop")
+    main.add("goto stop")
+    main.label("out")
+    return filled(made, points)
+
+
 def web(points: int = 16000, bits: int = 4000, procedures: int = 256, seed: int = 1) -> str:
     """each statement of a procedure is a call of eight others, near and far, both ways"""
     draw = random.Random(seed)
@@ -623,6 +650,7 @@ SHAPES: dict[str, Callable[..., str]] = {
     "ring": ring,
     "tower": tower,
     "neighbours": neighbours,
+    "crowd": crowd,
     "web": web,
     "drip": drip,
     "drip-back": drip_back,
