@@ -5,9 +5,7 @@ use std::sync::Arc;
 use std::sync::atomic::{AtomicBool, Ordering};
 use std::test::Fail;
 use std::thread;
-
-/// How often an activity looks for the other.
-const TURNS: u32 = 200_000_000;
+use team_probes::comes;
 
 #[derive(Drop)]
 struct Flags {
@@ -31,12 +29,7 @@ impl Flags {
             (&self.second, &self.first)
         };
         mine.store(true, Ordering::SeqCst);
-        for _ in 0..TURNS {
-            if other.load(Ordering::SeqCst) {
-                return true;
-            }
-        }
-        false
+        comes(&|| other.load(Ordering::SeqCst))
     }
 }
 

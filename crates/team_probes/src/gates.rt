@@ -6,6 +6,7 @@ use flow_team::{Gate, OpenGate, OutOfMemory, Team};
 use slice_board::{Pass, Wanted};
 use std::alloc::Global;
 use std::sync::atomic::{AtomicBool, AtomicU32, AtomicU64, Ordering};
+use std::thread::yield_now;
 
 /// One worker, who takes a bit at a time and tells nobody.
 pub fn alone<R>(rt: &R) -> Team<'_, R, OpenGate> {
@@ -83,8 +84,22 @@ impl Gate for Recorder {
     }
 }
 
-/// How often a gate that waits looks for the others.
-const TURNS: u32 = 200_000_000;
+/// How often who waits looks for the others, where none of them comes.
+const TURNS: u32 = 40_000_000;
+
+/// Whether what is waited for came while it was looked for: many seconds long, since on a busy machine an activity may stand still for
+/// some. The condition: it can be looked for at any time.
+pub fn comes<F: Fn() -> bool>(is_there: &F) -> bool
+    requires { F.IsAlwaysCallable is_there.now }
+{
+    for _ in 0..TURNS {
+        if is_there() {
+            return true;
+        }
+        yield_now();
+    }
+    false
+}
 
 /// A team all of whose workers have to meet, in each job that they are given: the first slices of a job, as many as there are workers, are
 /// held once they are claimed, until all of them are.
@@ -132,12 +147,9 @@ impl Gate for Meeting {
             .fetch_or(1 << (worker % 64), Ordering::SeqCst);
         let job = self.claims.fetch_add(1, Ordering::SeqCst) / self.workers;
         let all = job.saturating_add(1).saturating_mul(self.workers);
-        for _ in 0..TURNS {
-            if self.claims.load(Ordering::SeqCst) >= all {
-                return;
-            }
+        if !comes(&|| self.claims.load(Ordering::SeqCst) >= all) {
+            self.missed.store(true, Ordering::SeqCst);
         }
-        self.missed.store(true, Ordering::SeqCst);
     }
 
     fn finished<W: Wanted>(&self, _worker: u32, _slice: u32, _pass: &Pass<W>) {}
