@@ -29,8 +29,9 @@ WIDTH = 140
 # How long a document may be; all others below docs/ may have OTHER_SIZE lines.
 SIZES = {
     "docs/ARCHITECTURE.md": 210,
-    "docs/TRUST.md": 209,
-    "docs/PROVING.md": 386,
+    "docs/TRUST.md": 220,
+    "docs/DECISIONS.md": 320,
+    "docs/PROVING.md": 395,
     "docs/GLOSSARY.md": 80,
     "README.md": 182,
 }

@@ -25,7 +25,7 @@ EXCEPTIONS: dict[str, str] = {  # what needs neither a caller nor an edit, each 
     "flow_kept: Kept::limits": "a field, which its clause names",
     "flow_kept: Kept::program": "tacflow_c calls it, of what a handle keeps",
     "flow_lints: linted_here": "hands on linted, over whose clauses lint_texts is proved",
-    "flow_queries: answer_here": "hands on GraphSolvers, over whose clauses flow_reports is proved",
+    "flow_queries: answer_here": "hands on GraphSolvers, over whose clauses report_answers is proved",
     "flow_rows: Board::claim": "hands on WordBoard::claim; claim_takes_taken turns it",
     "flow_rows: Board::cut": "hands on WordBoard::cut, a field, which its clause names",
     "flow_rows: Board::finish": "hands on WordBoard::finish; finish_other_slice turns it",

@@ -38,6 +38,7 @@ EXECUTIONS = 30
 STEPS = 150
 KINDS = "never-called never-reached unset computed busy dead".split()
 LINE = re.compile(r"(\d+):(\d+): ([a-z-]+): (.*)")
+LATER = re.compile(r"(\d+):(\d+): note: (\w+ may be used before it is set) here too")
 NOTE = re.compile(
     r"note: (\d+) dead assignments? (?:is|are) not told, since the program may never end"
     r" \(from line (\d+) on\)"
@@ -93,8 +94,12 @@ def text_of(seed: int) -> str:
 def told_of(lines: list[str]) -> Told:
     """What lines tell, without the file's name; it is refused where a line is of no known form."""
     lints: list[Lint] = []
-    left_out = endless = 0
+    left_out = endless = later = 0
     for text in lines[:-1]:
+        if use := LATER.fullmatch(text):
+            lints.append(Lint(int(use[1]), int(use[2]), "unset", use[3]))
+            later += 1
+            continue
         if note := NOTE.fullmatch(text):
             left_out, endless = int(note[1]), int(note[2])
             continue
@@ -104,14 +109,26 @@ def told_of(lines: list[str]) -> Told:
         place = (0, 0) if found[3] == "never-called" else (int(found[1]), int(found[2]))
         lints.append(Lint(*place, found[3], found[4]))
     last = REMARKS.fullmatch(lines[-1] if lines else "")
-    if not last or int((last[1] or last[2] or last[3]).replace("no", "0")) != len(lints):
-        raise ValueError(f"not the count of {len(lints)} remarks: {lines[-1:]}")
+    if not last or int((last[1] or last[2] or last[3]).replace("no", "0")) != len(lints) - later:
+        raise ValueError(f"not the count of {len(lints) - later} remarks: {lines[-1:]}")
     return Told(lints, left_out, endless)
+
+
+def grouped(lints: list[Lint]) -> Iterator[Lint]:
+    """The lints with the later uses of a variable, which are its notes, behind the first."""
+    told: set[str] = set()
+    for lint in lints:
+        if lint.kind != "unset":
+            yield lint
+        elif lint.words not in told:
+            told.add(lint.words)
+            yield from (one for one in lints if one.kind == "unset" and one.words == lint.words)
 
 
 def wanted_of(meaning: Meaning) -> Told:
     left_out = meaning.left_out()
-    return Told(list(meaning.lints()), left_out, meaning.first_endless() if left_out else 0)
+    lints = list(grouped(list(meaning.lints())))
+    return Told(lints, left_out, meaning.first_endless() if left_out else 0)
 
 
 def not_as_wanted(told: Told, wanted: Told) -> Iterator[str]:

@@ -51,11 +51,12 @@ WORDS = {
         "--format json",
         "--format json --paths",
         "--format json --procedure main",
+        "--format html --paths --title main",
         "--format report",
     ],
-    "taclint": ["-", "--kinds all -", "--limits large /dev/stdin"],
+    "taclint": ["-", "--kinds all -", "--why --workers 3 -", "--limits large /dev/stdin"],
 }
-# by how many workers, and in slices of one bit; taclint takes one
+# by how many workers, and in slices of one bit; taclint has no word for slices
 WORKERS = (1, 3)
 BY_WORKERS = ("tacflow", "tacview")
 # How a program ends that is out of memory, and what it may name then: itself, or what is read.

@@ -71,6 +71,10 @@ QUIET_JSON = (
     '{"type":"end","file":"quiet.tac","remarks":0}\n'
 )
 NO_MAIN = "<stdin>:1:1: error: no procedure is called `main` (refusal 6)\n<stdin>: 1 error\n"
+MANY_POINTS = (
+    "tacview: 2401 points are many for a picture: --procedure NAME draws one procedure, "
+    "--format html makes a page\n"
+)
 SMALL = "points 1, variables 0, definitions 0, expressions 0\n"
 HELP = re.compile(r"Tells what is worth a look .*\nUsage: taclint .*--kinds.*", re.S)
 Text = str | re.Pattern[str]  # all of it, or what it has to match
@@ -143,6 +147,10 @@ ROWS = [
     Row("taclint --format json quiet.tac", 0, QUIET_JSON),
     Row("taclint --format json --color always --source quiet.tac", 0, "", QUIET_JSON),
     Row("taclint --help", 0, HELP, environment={"NO_COLOR": "1"}),
+    # a picture that is too large to read, and what is none
+    Row("tacview <many.tac", 0, MANY_POINTS, re.compile(r"digraph .*}\n", re.S)),
+    Row("tacview <dead.tac", 0, "", re.compile(r"digraph .*}\n", re.S)),
+    Row("tacview --format report <many.tac", 0, "", re.compile(r"points 2401, .*", re.S)),
     # a reader that goes away: nothing is said by taclint, one line by the others
     Row(gone("taclint many.tac", "head -n 1"), 3, FIRST_OF_MANY),
     Row(gone("taclint many.tac"), 3, ""),
@@ -150,7 +158,7 @@ ROWS = [
     Row(gone("taclint many.tac none.tac"), 3, ""),
     Row(gone("taclint --help"), 3, ""),
     Row(gone("tacflow <many.tac"), 1, "tacflow: write fault\n"),
-    Row(gone("tacview <many.tac"), 1, "tacview: write fault\n"),
+    Row(gone("tacview <many.tac"), 1, MANY_POINTS + "tacview: write fault\n"),
     # the other programs read what is typed
     Row("tacflow", 0, SMALL, None, FILES["quiet.tac"] + END_OF_INPUT),
     Row("tacview --format report", 0, "", SMALL, FILES["quiet.tac"] + END_OF_INPUT),

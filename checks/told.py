@@ -37,6 +37,9 @@ TEXTS = {
     "empty.tac": b"proc p\nend\n\n  proc q # p\nend\nproc main\nx = 1\nL: goto L\nend\n",
     "early.tac": b"proc p\n end\nproc main\ncall p\nx = 1\nL: goto L\nend\n",
     "many.tac": b"proc main\n" + b"x = ;\n" * 30 + b"end\n",
+    "twenty.tac": b"proc main\n" + 20 * b"x = ;\n" + b"end\n",
+    "twenty_one.tac": b"proc main\n" + 21 * b"x = ;\n" + b"end\n",
+    "uses.tac": b"proc main\nread y\n" + 22 * b"if y goto E\n" + b"print x\nE: print x\ncall p\nend\nproc p\nprint x\nend\n",
     "dead.tac": b"proc main\nx = 1\nreturn\ny = 2\n\nz = 3\nend\n",
     'a "b" \\ c\x1b\n\xc3\xa9.tac': b"proc main\nx = 1\nend\n",
     "bytes \x7f.tac": b'proc main\nx = y \x1b" \\\nend\n',
@@ -75,7 +78,12 @@ def texts_of(line: dict[str, Any]) -> list[str]:
         return [f"{file}: note: {untold}, since the program may never end{where}"]
     if kind == "end":
         return [f"{file}: {last_text(line)}"]
+    if kind == "more_turns":
+        more, be = (("turn", "is") if line["count"] == 1 else ("turns", "are"))
+        return [f"{file}: note: {line['count']} more {more} of the way {be} left out"]
     place = f"{file}:{line['line']}:{line['column']}"
+    if kind in ("turn", "later"):
+        return [f"{place}: note: {line['words']}"]
     if kind == "remark":
         return [f"{place}: {line['kind']}: {line['words']}"]
     notes = [f"{place}: note: {line['note']}"] if "note" in line else []
@@ -157,7 +165,7 @@ def main() -> int:
         files = [(name, folder) for name in [*texts, *TEXTS]]
         examples = sorted(glob.glob("*.tac", root_dir=EXAMPLES))
         for name, place in files + [(name, EXAMPLES) for name in examples]:
-            for words in (["--kinds", "all"], ["--limits", "large"]):
+            for words in (["--kinds", "all"], ["--limits", "large"], ["--why", "--workers", "3"]):
                 faults = list(faults_of(schema, name, words, place))
                 for fault in faults:
                     print(f"failed: {name!r} {' '.join(words)}: {fault}")

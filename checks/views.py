@@ -1,7 +1,7 @@
 """Tries tacview on each program of examples/. Each line of JSON is parsed, held against
 docs/tacview.schema.json, and compared with what tacflow writes of the same program: tables, report,
-listing and source; differences give the sets of the other form. Each picture is compared with one that is made of the lines, and goes through
-Graphviz, where `dot` is there. Then the facts of one procedure of a larger program have to do with
+listing and source; differences give the sets of the other form. A page has these lines. Each picture
+is compared with one that is made of the lines, and goes through Graphviz, where `dot` is there. Then the facts of one procedure of a larger program have to do with
 the memory of its points, and the report of a program with many tests and expressions with that of
 the words that have a bit. TACVIEW=/path/to/program and TACFLOW=/path/to/program take other programs
 than ./tacview and ./tacflow. Prints `N passed, M failed`."""
@@ -248,25 +248,55 @@ def both_sides(points: list[Row]) -> list[Row]:
     return shown
 
 
-def node_of(point: Row, remarks: list[Row]) -> str:
+def set_lines(head: str, names: list[str]) -> list[str]:
+    """A set as a picture has it: at most 60 signs on a line that has more than one name."""
+    lines = [head + (names or ["-"])[0]]
+    for name in names[1:]:
+        longer = f"{lines[-1]}, {name}"
+        if len(longer) < 60:
+            lines[-1] = longer
+        else:
+            lines[-1] += ","
+            lines.append(f"  {name}")
+    return lines
+
+
+def fact_lines(point: Row) -> list[str]:
+    """The lines of a point's facts."""
+    lines: list[str] = []
+    for name in ANALYSES:
+        if name in point:
+            lines += set_lines(f"{name}: ", point[name]["names"])
+            if "behind" in point[name]:
+                lines += set_lines(f"{name} behind: ", point[name]["behind"])
+    return lines
+
+
+def node_of(point: Row, remarks: list[Row], hovers: bool) -> str:
     """The line of a point in a picture."""
     lines = [f"{label}:" for label in point["labels"]]
     end = point["line"] is None
     lines.append(f"end of {point['procedure']}" if end else f"{point['line']}: {point['statement']}")
     lines += [REMARKS[remark["kind"]].format(**remark) for remark in remarks]
-    for name in ANALYSES:
-        if name in point:
-            lines.append(f"{name}: {', '.join(point[name]['names']) or '-'}")
-            if "behind" in point[name]:
-                lines.append(f"{name} behind: {', '.join(point[name]['behind']) or '-'}")
+    facts = fact_lines(point)
     kinds = {remark["kind"] for remark in remarks}
-    marks = ", color=red, fontcolor=red" if "unset" in kinds else ""
-    marks += ", style=filled, fillcolor=khaki" if "dead" in kinds else ""
     reached = point["reach"]["path"] if "reach" in point else "never_reached" not in kinds
-    marks = marks if reached else ", style=filled, fillcolor=grey80"
-    marks += ", peripheries=2" if point["doubtful"] else ""
-    label = "".join(line + "\\l" for line in lines)
-    return f'    {point["point"]} [label="{label}"{marks}];\n'
+    marks = [] if reached else ["unreached"]
+    marks += [kind for kind in ("unset", "dead") if kind in kinds and reached]
+    marks += ["doubtful"] if point["doubtful"] else []
+    label = "".join(line + "\\l" for line in lines + ([] if hovers else facts))
+    tooltip = ', tooltip="' + "".join(line + "\\l" for line in facts) + '"' if hovers else ""
+    looks = "".join(LOOKS[mark] for mark in marks)
+    names = f'id="point{point["point"]}", class="{" ".join(["point", *marks])}"'
+    return f'    {point["point"]} [{names}, label="{label}"{tooltip}{looks}];\n'
+
+
+LOOKS = {
+    "unreached": ", style=filled, fillcolor=grey80",
+    "unset": ", color=red, fontcolor=red",
+    "dead": ", style=filled, fillcolor=khaki",
+    "doubtful": ", peripheries=2",
+}
 
 
 ACROSS = "style=dashed, color=grey60, fontcolor=grey40, constraint=false"
@@ -280,24 +310,27 @@ def edges_of(point: Row, lines: dict[int, int | None]) -> str:
             continue
         outcome = {True: ' [label="T"]', False: ' [label="F"]', None: ""}[edge.get("when")]
         if edge["kind"] != "step":
-            outcome = f' [{ACROSS}, xlabel="{edge["kind"]} {lines[edge["site"]]}"]'
+            kind = edge["kind"]
+            outcome = f' [class="{kind}", {ACROSS}, xlabel="{kind} {lines[edge["site"]]}"]'
         text += f"  {source} -> {edge['to']}{outcome};\n"
     if any(edge["kind"] == "call" for edge in point["edges"]):
-        text += f"  {source} -> {source + 1} [style=dotted, arrowhead=none];\n"
+        text += f'  {source} -> {source + 1} [class="passed", style=dotted, arrowhead=none];\n'
     return text
 
 
-def picture_of(program: Row, points: list[Row], remarks: list[Row]) -> str:
+def picture_of(program: Row, points: list[Row], remarks: list[Row], hovers: bool = False) -> str:
     """The picture of these objects."""
     names = program["procedures"]
     text = 'digraph "tacflow" {\n  graph [fontname="monospace", labeljust=l];\n'
     text += '  node [shape=box, fontname="monospace", fontsize=11];\n'
-    text += '  edge [fontname="monospace", fontsize=10];\n'
+    text += '  edge [class="step", fontname="monospace", fontsize=10];\n'
     for name in sorted(names, key=lambda name: name != "main"):
-        text += f'  subgraph "cluster_{names.index(name)}" {{\n    label="{name}";\n'
+        number = names.index(name)
+        text += f'  subgraph "cluster_{number}" {{\n    id="procedure{number}";\n'
+        text += f'    class="procedure";\n    label="{name}";\n'
         for point in points:
             own = [row for row in remarks if row["point"] == point["point"]]
-            text += node_of(point, own) if point["procedure"] == name else ""
+            text += node_of(point, own, hovers) if point["procedure"] == name else ""
         text += "  }\n"
     lines = {point["point"]: point["line"] for point in points}
     return text + "".join(edges_of(point, lines) for point in points) + "}\n"
@@ -312,6 +345,10 @@ def check_picture(source: bytes) -> None:
     words = ["--facts", "all", "--hide-entry", "--facts-behind"]
     wanted = picture_of(program, both_sides(points), remarks)
     assert run(TACVIEW, words, source).decode() == wanted, words
+    hovering = picture_of(program, both_sides(points), remarks, hovers=True)
+    assert run(TACVIEW, [*words, "--facts-on-hover"], source).decode() == hovering
+    told = run(TACVIEW, [*words, "--legend"], source).decode()
+    assert told.startswith(wanted.removesuffix("}\n") + '  subgraph "cluster_legend" {\n'), told
 
 
 def names_by_number(program: Row) -> dict[str, list[str]]:
@@ -387,7 +424,8 @@ def check_dot(source: bytes) -> None:
     if not shutil.which("dot"):
         return
     names = objects(source)[0]["procedures"]
-    pictures: list[list[str]] = [[], ["--facts", "all"]]
+    pictures: list[list[str]] = [[], ["--facts", "all", "--legend"]]
+    pictures += [["--facts", "all", "--facts-behind", "--facts-on-hover"]]
     pictures += (["--procedure", name, "--facts", "reach,busy"] for name in names)
     unset = [row for row in objects(source)[2] if row["kind"] == "unset"]
     pictures += (["--because", f"{row['line']}:{row['variable']}"] for row in unset[:1])
@@ -473,7 +511,34 @@ def many_tests() -> bytes:
     return ("\n".join(rows) + "\n").encode()
 
 
-CHECKS = (check_json, check_changes, check_paths, check_picture, check_dot)
+def lines_in(page: bytes) -> list[bytes]:
+    """The lines in a page's element, of which none has a sign that begins or ends one."""
+    before, opening, rest = page.partition(b'id="lines">\n')
+    lines, closing, _ = rest.partition(b"</script>\n")
+    assert before.startswith(b"<!doctype html>\n") and opening and closing, page[:100]
+    assert b"<" not in lines, lines
+    return lines.replace(b"\\u003c", b"<").splitlines()
+
+
+def check_page(source: bytes) -> None:
+    """A page has the lines with differences, and with paths the remarks and doubts with paths."""
+
+    def written(*words: str) -> bytes:
+        return run(TACVIEW, ["--format", *words], source)
+
+    changes = written("json", "--changes").splitlines()
+    assert lines_in(written("html")) == changes
+    title = b'{"type":"page","title":"a < b"}'
+    own = ("--facts", "live", "--procedure", "main")
+    wanted = written("json", "--changes", *own).splitlines()
+    assert lines_in(written("html", "--title", "a < b", *own)) == [title, *wanted]
+    told = (b'{"type":"remark"', b'{"type":"doubt"', b'{"type":"end"')
+    paths = [row for row in written("json", "--paths").splitlines() if row.startswith(told)]
+    shown = [row for row in changes if not row.startswith(told)]
+    assert lines_in(written("html", "--paths")) == shown + paths
+
+
+CHECKS = (check_json, check_changes, check_paths, check_page, check_picture, check_dot)
 
 
 def main() -> int:
