@@ -1,5 +1,5 @@
-"""One program from its C files to its remarks: gcc, the translation, tacview, and parts where it is
-beyond tacview's limits.
+"""One program from its C files to its remarks: gcc, the translation, tacview or taclint, and parts
+where it is beyond their limits.
 """
 
 from __future__ import annotations
@@ -7,10 +7,7 @@ from __future__ import annotations
 import contextlib
 import gc
 import os
-import re
 import signal
-import subprocess
-import tempfile
 from collections import Counter
 from collections.abc import Callable, Iterator
 from dataclasses import dataclass, field, replace
@@ -21,6 +18,7 @@ from gimple.dump import Place
 from gimple.faults import Refusal
 from gimple.world import World
 
+from . import lints, reports
 from .compiling import SYSTEM_HEADERS, BadWords
 from .findings import Claim, Findings
 from .remark import KINDS
@@ -29,12 +27,14 @@ from .sources import Lines, Sources
 if TYPE_CHECKING:
     from multiprocessing.pool import Pool
 
+    from gimple.code import Variable
     from gimple.dump import Function
     from gimple.emit import TooLarge, Written
     from gimple.inputs import Code
     from gimple.world import File
 
-    from .remark import Remark
+    from .findings import Facts, Line
+    from .remark import Note, Remark
 
 # More statements of gcc's than the first are no program within tacview's limits. What weighs no
 # more than the second mostly is one, where a function weighs as much as its statements and some
@@ -43,18 +43,6 @@ MANY_STATEMENTS = 800000
 PART = 400000
 FUNCTION = 20
 HOPELESS = 1600000
-# A line of a report, and how one ends that tells of a name or an expression.
-REMARK = re.compile(r"^(\d+): (.*)$", re.MULTILINE)
-ENDINGS = {
-    "computed": " is already computed",
-    "busy": " is very busy",
-    "dead": " is dead",
-    "unset": " may be used before it is set",
-}
-# The kinds that are looked for, or of which more is found out, only where they are told.
-ON_REQUEST = ("computed", "busy", "maybe-unset")
-HERE = os.path.dirname(os.path.realpath(__file__))
-ROOT = os.path.join(HERE, "..", "..")
 
 
 @dataclass(frozen=True)
@@ -62,8 +50,9 @@ class Task:
     """How a program is to be analysed.
 
     own: the files of which this program is the judge, should others take them in; None where there
-    are no other programs. kinds: what is told. report: where it is not made by tacview here, what
-    makes the report on a text and tells what else was said.
+    are no other programs. kinds: what is told. by_executions: by taclint in place of tacview.
+    report: where it is not made by tacview here, what makes the report on a text and tells what
+    else was said.
     """
 
     own: frozenset[str] | None = None
@@ -72,6 +61,7 @@ class Task:
     keep: str | None = None
     processes: int = 1
     kinds: frozenset[str] = frozenset(KINDS)
+    by_executions: bool = False
     report: Callable[[list[str]], tuple[str, list[str]]] | None = None
 
 
@@ -304,13 +294,7 @@ class Analysis:
         world = World(self.files, self.task.is_whole, outside)
         built = program.build(world, self.task.shows_all)
         written = emit.Writer().write(built.procedures)
-        told, said = self.report(written.pieces)
-        if self.task.keep:
-            keep(self.task.keep, written, told)
-        written.pieces.clear()  # the text is in use no more
-        unset = frozenset(line for line, step, _ in written.notes() if step.unset)
-        facts = read_facts(told, self.task.kinds, unset)
-        told = ""
+        facts, said = self.facts(written)
         found = Findings.of(
             built,
             written,
@@ -325,15 +309,47 @@ class Analysis:
             f"{procedure.refusal}; '{procedure.source}' is taken as unknown code"
             for procedure in built.refused
         ]
+        if self.task.is_whole and not outside:
+            said += self.missing(world.without_body())
         part = Outcome(found.remarks, seen=self.seen_in(found), notes=said)
         part.lines.take(self.sources, part.remarks.values())
         self.parts.append(part)
 
-    def report(self, pieces: list[str]) -> tuple[str, list[str]]:
-        """The report on a text, and what was said on standard error."""
-        if self.task.report is not None:
-            return self.task.report(pieces)
-        return run_tacview(pieces, self.workers)
+    def facts(self, written: Written) -> tuple[Facts, list[str]]:
+        """What is told of a program, whose text is in use no more, and what was said on standard
+        error.
+        """
+        task = self.task
+        if task.by_executions:
+            told, said = lints.run_taclint(written.pieces, self.workers, task.kinds)
+        elif task.report is not None:
+            told, said = task.report(written.pieces)
+        else:
+            told, said = reports.run_tacview(written.pieces, self.workers)
+        if task.keep:
+            keep(task.keep, written, "lints" if task.by_executions else "report", told)
+        written.pieces.clear()
+        unset = frozenset(line for line, step, _ in written.notes() if step.unset)
+        if task.by_executions:
+            return lints.read_facts(told, written, unset), said
+        return reports.read_facts(told, task.kinds, unset), said
+
+    def missing(self, called: set[str]) -> list[str]:
+        """What is to be said of functions without a body which these files declare themselves, and
+        not the headers of a library: a file may be missing of what is taken to be whole.
+        """
+        files = dict.fromkeys(name for file in self.files for name in file.symbols.sources)
+        names: set[str] = set()
+        for file in files:
+            names |= called & self.sources.get(file).declared()
+        if not names:
+            return []
+        first, *others = sorted(names)
+        more = f" and {len(others)} more" if others else ""
+        return [
+            f"no file has a body of '{first}'{more}, which these files declare: where a file is "
+            "missing, what --whole tells is wrong"
+        ]
 
     def show_ways(self, found: Findings) -> None:
         """Has remarks on what may be unset show the way on which it is."""
@@ -344,19 +360,28 @@ class Analysis:
         }
         if not unsure:
             return
-        from .ways import Ways, paths_in  # few runs need them
+        for key, notes in self.ways_of(unsure, found.never).items():
+            remark = found.remarks[key]
+            found.remarks[key] = replace(remark, notes=(*notes, *remark.notes))
 
-        ways = Ways(unsure.values(), found.never, self.sources)
+    def ways_of(
+        self, unsure: dict[Claim, tuple[Line, Variable]], never: set[int]
+    ) -> dict[Claim, tuple[Note, ...]]:
+        """Notes of the ways to these uses; the remarks are told without where no way is found."""
+        if self.task.by_executions:
+            from .turns import notes_of_turns  # few runs need them
+
+            return notes_of_turns(unsure, never, self.sources, self.workers)
+        from .ways import Ways, paths_in
+
+        ways = Ways(unsure.values(), never, self.sources)
         try:
             pieces = emit.Writer().write(ways.program()).pieces
         except emit.TooLarge:
-            return  # the remarks are told without
+            return {}
         words = ("--format", "json", "--facts", "none", "--paths")
-        paths = paths_in(run_tacview(pieces, self.workers, *words)[0])
-        for key, (line, variable) in unsure.items():
-            remark = found.remarks[key]
-            notes = ways.notes(line, variable, paths)
-            found.remarks[key] = replace(remark, notes=(*notes, *remark.notes))
+        paths = paths_in(reports.run_tacview(pieces, self.workers, *words)[0])
+        return {key: ways.notes(*use, paths) for key, use in unsure.items()}
 
     def seen_in(self, found: Findings) -> set[Claim]:
         """What could be told at places that other programs, or other parts of this one, may have
@@ -396,78 +421,15 @@ def cut(functions: list[Any], weights: dict[Any, int], count: int) -> list[list[
     return parts
 
 
-def tacview() -> str:
-    """The program that finds the facts."""
-    return os.environ.get("TACVIEW", os.path.join(ROOT, "tacview"))
-
-
-def run_tacview(pieces: list[str], workers: int, *words: str) -> tuple[str, list[str]]:
-    """What tacview writes of a program by so many workers, its report unless words ask for other
-    things, and what it says on standard error, as that it runs unproved.
-    """
-    words = words or ("--format", "report")
-    with tempfile.TemporaryFile("w+", encoding="ascii") as text:
-        text.writelines(pieces)
-        text.seek(0)
-        return answered("--limits", "large", "--workers", str(workers), *words, stdin=text)
-
-
-def answered(*words: str, **given: Any) -> tuple[str, list[str]]:
-    """What tacview answers to words, and what it says on standard error. given: its input."""
-    try:
-        done = subprocess.run([tacview(), *words], **given, capture_output=True, check=False)
-    except OSError as fault:
-        raise Refusal(f"{tacview()}: {fault.strerror}") from None
-    said = done.stderr.decode("utf-8", "replace").strip().splitlines()
-    if done.returncode:
-        raise Refusal(
-            f"tacview failed with the status {done.returncode}" + (f": {said[-1]}" if said else "")
-        )
-    return done.stdout.decode(), said
-
-
-def part_of_report(text: bytes, number: int, count: int) -> str:
-    """A part of the report on a text, of so many."""
-    words = ("--limits", "large", "--format", "report", "--part", f"{number}/{count}")
-    return answered(*words, input=text)[0]
-
-
-def read_facts(
-    told: str, kinds: frozenset[str] = frozenset(KINDS), unset: frozenset[int] | None = None
-) -> dict[int, list[tuple[str, str]]]:
-    """The remarks of a report, by the line of the program: a kind and a name or expression.
-
-    Of expressions only those that are of these kinds. unset: the lines of which it is asked whether
-    they read what is not set; all where it is None.
-    """
-    left_out = [kind for kind in ON_REQUEST if kind not in kinds]
-    facts: dict[int, list[tuple[str, str]]] = {}
-    known: dict[str, tuple[str, str]] = {}
-    for found in REMARK.finditer(told):
-        fact = known.get(found[2])
-        if fact is None:
-            fact = known[found[2]] = fact_of(found[2])
-        line = int(found[1])
-        is_asked = unset is None or fact[0] != "unset" or line in unset
-        if fact[0] not in left_out and is_asked:
-            facts.setdefault(line, []).append(fact)
-    return facts
-
-
-def fact_of(text: str) -> tuple[str, str]:
-    """A remark's text as its kind and a name or expression."""
-    if text == "never reached":
-        return "never_reached", ""
-    kind, ending = next((kind, end) for kind, end in ENDINGS.items() if text.endswith(end))
-    return kind, text.removesuffix(ending).removeprefix("assignment to ")
-
-
-def keep(folder: str, written: Written, told: str) -> None:
-    """Leaves what was made in a folder."""
+def keep(folder: str, written: Written, name: str, told: str) -> None:
+    """Leaves what was made in a folder, and what was told of it under a name."""
     os.makedirs(folder, exist_ok=True)
-    made = {"tac": written.pieces, "map": emit.map_lines(written), "report": [told]}
-    for name, lines in made.items():
+    made = {"tac": written.pieces, "map": emit.map_lines(written), name: [told]}
+    for ending, lines in made.items():
         with open(
-            os.path.join(folder, "program." + name), "w", encoding="utf-8", errors="surrogateescape"
+            os.path.join(folder, "program." + ending),
+            "w",
+            encoding="utf-8",
+            errors="surrogateescape",
         ) as file:
             file.writelines(lines)

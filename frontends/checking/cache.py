@@ -11,7 +11,7 @@ from typing import TYPE_CHECKING
 from gimple.faults import Refusal
 
 from .facts import FORMAT, decoded, encoded
-from .makers import build, compiler, surroundings, version, viewer
+from .makers import build, compiler, sum_of_program, surroundings, version
 from .shares import complete
 from .sums import is_new, sum_of
 from .writing import write_whole
@@ -35,7 +35,7 @@ class Cache:
     @staticmethod
     def of(folder: str, making: Making) -> Cache:
         """The cache in a folder, for shares that are made in one way."""
-        by = "" if making.is_linked else viewer()
+        by = [] if making.is_linked else [making.finder, sum_of_program(making.finder)]
         told = [FORMAT, version(), build(), compiler(), by, *surroundings()]
         told += [making.is_linked, making.shows_all, *making.held()]
         return Cache(folder, json.dumps(told))

@@ -21,11 +21,12 @@ from typing import TYPE_CHECKING, Any
 
 from gimple.faults import Refusal
 
-from .analysis import HERE, answered, part_of_report
 from .compiling import BadWords, Unusable
 from .facts import decoded
-from .makers import ENVIRONMENT, makers, report_makers
+from .makers import ENVIRONMENT, makers, sum_told
 from .part import FAILED
+from .programs import HERE
+from .reports import answered, part_of_report
 from .shares import found_or_made
 from .sums import sum_of
 
@@ -39,7 +40,7 @@ if TYPE_CHECKING:
 
 # The variables that bear on what is made and said, and on where Python keeps what it compiles.
 SENT = (
-    *("GCC", "TACVIEW", *ENVIRONMENT, "LANG", "LANGUAGE", "LC_ALL", "LC_CTYPE", "LC_MESSAGES"),
+    *("GCC", "TACVIEW", "TACLINT", *ENVIRONMENT, "LANG", "LANGUAGE", "LC_ALL", "LC_CTYPE", "LC_MESSAGES"),
     *("PYTHONPYCACHEPREFIX", "PYTHONDONTWRITEBYTECODE"),
 )
 # What a worker runs: it tells its machine's name, and then the share or the part.
@@ -107,7 +108,7 @@ class Cluster:
         here.
         """
         text = "".join(pieces).encode("ascii")
-        head = json.dumps(report_makers()).encode("ascii") + b"\n"
+        head = json.dumps(sum_told("tacview")).encode("ascii") + b"\n"
         with self.client() as client:
             given = self.scattered(client, head + text)
             count = min(self.threads(client), PARTS)
@@ -233,7 +234,7 @@ def command(*job: str) -> list[str]:
 def jobs_of(making: Making, groups: list[list[Input]], cache: Cache | None) -> list[bytes]:
     """What workers have to know, for each source."""
     told: dict[str, object] = {
-        "makers": makers(making.is_linked),
+        "makers": makers(making),
         "folder": os.getcwd(),
         "making": vars(making) | {"kinds": sorted(making.kinds)},
         "cache": cache and cache.folder,

@@ -5,7 +5,6 @@ from __future__ import annotations
 import gc
 import io
 import os
-import subprocess
 import sys
 from collections import Counter
 from collections.abc import Iterator
@@ -13,9 +12,10 @@ from dataclasses import replace
 from typing import TYPE_CHECKING
 
 from . import baseline, changes, formats
-from .analysis import ROOT, agreed
+from .analysis import agreed
 from .compiling import SYSTEM_HEADERS, BadWords, Input, Unusable
 from .database import inputs_of
+from .programs import prepare
 from .remark import in_source_order
 from .shares import Making, all_made, complete, copies_of, linked
 from .sources import Lines
@@ -47,19 +47,6 @@ def inputs_given(words: Words) -> list[Input]:
     return [replace(one, words=tuple(words.options)) for one in given]
 
 
-def prepare_tacview() -> None:
-    """Has the launcher build its program where that is still to be done, which it tells on standard
-    error.
-    """
-    if "TACVIEW" in os.environ:
-        return
-    out = os.path.join(ROOT, "crates", "tacview", "out")
-    if not any(os.path.exists(os.path.join(out, path)) for path in ("tacview", "unproved/tacview")):
-        subprocess.run(
-            [os.path.join(ROOT, "tacview"), "--help"], stdout=subprocess.DEVNULL, check=False
-        )
-
-
 def write(words: Words, remarks: list[Remark], known: Lines, files: list[str]) -> None:
     """Writes the remarks on files to standard output, with the lines that they stand on."""
     if isinstance(sys.stdout, io.TextIOWrapper):
@@ -73,7 +60,7 @@ def write(words: Words, remarks: list[Remark], known: Lines, files: list[str]) -
     elif words.values["--format"] == "html":
         from .page import page
 
-        prepare_tacview()
+        prepare("tacview")
         sys.stdout.writelines(page(remarks, known, files))
         lines = iter(())
     else:
@@ -126,19 +113,25 @@ def faults_of(shares: list[Share], outcomes: list[Outcome]) -> list[str]:
 
 def check(words: Words) -> int:
     """Does what the words ask for; answers the status."""
-    making = Making(words.is_linked, words.flags["--all"], words.kinds, words.values["--keep"])
+    making = Making(
+        words.is_linked,
+        words.flags["--all"],
+        words.kinds,
+        words.values["--keep"],
+        words.flags["--executions"],
+    )
     target = words.values["--emit"]
     gc.disable()  # what is made is in use until its program is done, and then collected
     if words.flags["--merge"]:
         if words.is_linked:
-            prepare_tacview()
+            prepare(making.finder)
         return told(words, making, merged(words, making), Processes(words.processes))
     given = inputs_given(words)
     workers = workers_of(words)
     if target is not None and len({one.name for one in given}) != 1:
         raise BadWords("--emit takes one C file")
     if target is None or not words.is_linked:
-        prepare_tacview()
+        prepare(making.finder)
     shares = all_made(making, given, workers, cache_of(words, making))
     if target is not None:
         return emit(target, words.values["-MD"], making, shares[0])

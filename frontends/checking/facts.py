@@ -46,6 +46,7 @@ class Facts:
     gcc: str
     is_linked: bool
     shows_all: bool
+    by_executions: bool
     kinds: list[str]
     sums: dict[str, str] = field(default_factory=dict)
 
@@ -71,6 +72,7 @@ def lines_of(share: Share, making: Making) -> Iterator[Line]:
         "gcc": compiler(),
         "linked": making.is_linked,
         "all": making.shows_all,
+        "executions": making.by_executions,
         "kinds": making.held(),
         "left_out": share.left_out,
     }
@@ -166,7 +168,8 @@ def refuse_other(head: Line | None, body: bytes, path: str) -> None:
 def facts_of(head: Line, lines: Iterable[Line], path: str) -> Facts:
     """The share of these lines."""
     share = Share(head["source"], left_out=head["left_out"])
-    facts = Facts(path, share, head["gcc"], head["linked"], head["all"], head["kinds"])
+    how = (head["linked"], head["all"], head["executions"], head["kinds"])
+    facts = Facts(path, share, head["gcc"], *how)
     texts: dict[str, str | None] = {}
     for line in lines:
         if "read" in line:

@@ -24,7 +24,7 @@ def main() -> int:
     try:
         given = json.load(sys.stdin.buffer)
         making = Making(**given["making"] | {"kinds": frozenset(given["making"]["kinds"])})
-        refuse_others(given["makers"], makers(making.is_linked))
+        refuse_others(given["makers"], makers(making))
         os.chdir(given["folder"])
         inputs = [input_of(one) for one in given["given"]]
         sys.stdout.buffer.write(answer(making, inputs, given["cache"]))
@@ -45,7 +45,7 @@ def input_of(told: dict[str, Any]) -> Input:
 
 
 def refuse_others(wanted: dict[str, str], found: dict[str, str]) -> None:
-    """Refuses to work by another check-c, gcc or tacview than the run's."""
+    """Refuses to work by another check-c, gcc, tacview or taclint than the run's."""
     for name, known in wanted.items():
         if found.get(name) != known:
             raise Refusal(f"its {name} is {found.get(name)}, and where the run began {known}")

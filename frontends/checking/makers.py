@@ -1,4 +1,4 @@
-"""What facts are made by: this front end, gcc, tacview."""
+"""What facts are made by: this front end, gcc, tacview or taclint."""
 
 from __future__ import annotations
 
@@ -9,17 +9,21 @@ import re
 import shutil
 import subprocess
 from collections.abc import Iterable
+from typing import TYPE_CHECKING
 
 from gimple.symbols import Symbols, read_sources
 
-from .analysis import HERE, ROOT, tacview
 from .compiling import gcc
+from .programs import HERE, ROOT, path_of
 
-# What a launcher of tacview starts, from the folder that it stands in.
+if TYPE_CHECKING:
+    from .shares import Making
+
+# What the launcher of a program starts, from the folder that it stands in.
 STARTED = (
-    "../libexec/tacflow/tacview",
-    "crates/tacview/out/tacview",
-    "crates/tacview/out/unproved/tacview",
+    "../libexec/tacflow/{0}",
+    "crates/{0}/out/{0}",
+    "crates/{0}/out/unproved/{0}",
 )
 # What `gcc -v` says of itself.
 TOLD = re.compile(r"^Target: .*|^.* version .*", re.MULTILINE)
@@ -85,25 +89,26 @@ def asked_of_gcc(*words: str) -> subprocess.CompletedProcess[str]:
     )
 
 
-def viewer() -> str:
-    """The sum of tacview, and of the programs that it starts where it is a launcher."""
-    found = shutil.which(tacview())
+def sum_of_program(name: str) -> str:
+    """The sum of a program that finds facts, and of those that it starts where it is a launcher."""
+    found = shutil.which(path_of(name))
     if found is None:
         return ""
     path = os.path.realpath(found)
-    beside = [os.path.join(os.path.dirname(path), name) for name in STARTED]
+    beside = [os.path.join(os.path.dirname(path), started.format(name)) for started in STARTED]
     return sum_of_files([path, *filter(os.path.isfile, beside)])
 
 
-def makers(is_linked: bool) -> dict[str, str]:
+def makers(making: Making) -> dict[str, str]:
     """What shares are made by, each with what tells it from others of its name."""
     found = {"check-c": f"{version()} of the sources {build()}", "gcc": compiler()}
-    return found if is_linked else found | report_makers()
+    return found if making.is_linked else found | sum_told(making.finder)
 
 
-def report_makers() -> dict[str, str]:
-    """What reports are made by, in the same way."""
-    return {"tacview": f"of the sum {viewer()[:16]}" if viewer() else "missing"}
+def sum_told(name: str) -> dict[str, str]:
+    """A program that finds facts, told in the same way."""
+    found = sum_of_program(name)
+    return {name: f"of the sum {found[:16]}" if found else "missing"}
 
 
 def surroundings() -> list[str]:

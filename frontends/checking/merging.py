@@ -47,6 +47,7 @@ def refuse_other_making(facts: Facts, making: Making) -> None:
     pairs = [(facts.is_linked, making.is_linked, "--whole or --together")]
     if not facts.is_linked:
         pairs.append((facts.shows_all, making.shows_all, "--all"))
+        pairs.append((facts.by_executions, making.by_executions, "--executions"))
     for was_given, is_given, word in pairs:
         if was_given != is_given:
             told = f"{facts.path} was made {'with' if was_given else 'without'} {word}"

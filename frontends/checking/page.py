@@ -6,8 +6,10 @@ import json
 from collections.abc import Iterator
 from typing import TYPE_CHECKING, Any
 
-from .analysis import Refusal, answered
+from gimple.faults import Refusal
+
 from .compiling import Unusable
+from .reports import answered
 from .sources import text_of
 
 if TYPE_CHECKING:

@@ -9,9 +9,9 @@ import sys
 
 from gimple.faults import Refusal
 
-from .analysis import part_of_report
 from .job import refuse_others
-from .makers import report_makers
+from .makers import sum_told
+from .reports import part_of_report
 
 
 # The status where tacview failed, which it may do elsewhere too, or not.
@@ -23,7 +23,7 @@ def main(number: str, count: str) -> int:
     status.
     """
     try:
-        refuse_others(json.loads(sys.stdin.buffer.readline()), report_makers())
+        refuse_others(json.loads(sys.stdin.buffer.readline()), sum_told("tacview"))
     except Refusal as fault:
         print(fault, file=sys.stderr)
         return 3

@@ -68,6 +68,8 @@ KINDS = {
         "Evaluate it once, before the test.",
     ),
 }
+# The kinds that are looked for, or of which more is found out, only where they are told.
+ON_REQUEST = ("computed", "busy", "maybe-unset")
 
 
 @dataclass(frozen=True)

@@ -12,10 +12,10 @@ from typing import TYPE_CHECKING
 
 from gimple import inputs
 
-from .analysis import ON_REQUEST, Outcome, Task, analyse, told_in
+from .analysis import Outcome, Task, analyse, told_in
 from .compiling import files_read, left_out, run_gcc
 from .progress import Progress
-from .remark import KINDS
+from .remark import KINDS, ON_REQUEST
 from .sources import Sources, text_of
 
 if TYPE_CHECKING:
@@ -31,12 +31,19 @@ class Making:
     """How shares are made, which is the same for all shares of a run.
 
     is_linked: the sources are one program, of which a share has the code. kinds: what is told.
+    by_executions: by taclint in place of tacview.
     """
 
     is_linked: bool
     shows_all: bool
     kinds: frozenset[str]
     keep: str | None = None
+    by_executions: bool = False
+
+    @property
+    def finder(self) -> str:
+        """The program that finds the facts."""
+        return "taclint" if self.by_executions else "tacview"
 
     def held(self) -> list[str]:
         """The kinds that shares have: all but those that are looked for where they are told."""
@@ -68,7 +75,15 @@ def made(making: Making, given: list[Input], workers: int) -> Share:
     share = Share(given[0].name)
     sources = Sources()
     own = frozenset([share.source] if len(given) == 1 else [])
-    task = Task(own, False, making.shows_all, making.keep, workers, making.kinds)
+    task = Task(
+        own,
+        False,
+        making.shows_all,
+        making.keep,
+        workers,
+        making.kinds,
+        making.by_executions,
+    )
     with tempfile.TemporaryDirectory() as folder:
         for number, one in enumerate(given):
             with told_in(share.faults, share.source):
@@ -164,6 +179,7 @@ def linked(shares: list[Share], is_whole: bool, making: Making, workers: Workers
         making.keep,
         workers.count,
         making.kinds,
+        making.by_executions,
         workers.report,
     )
     outcome = analyse(task, codes, sources_of(shares))

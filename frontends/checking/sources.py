@@ -9,7 +9,7 @@ from collections.abc import Iterable
 from typing import TYPE_CHECKING
 
 from .expressions import BEFORE, NO_VALUE, Operand, canonical, written_at
-from .macros import NAME, Macros, enumerators_in, macros_in
+from .macros import COMMENT, NAME, Macros, enumerators_in, macros_in
 from .silencing import is_silenced
 
 if TYPE_CHECKING:
@@ -18,6 +18,12 @@ if TYPE_CHECKING:
 UNUSED = (
     r"__attribute__\s*\(\([^;]*\b(?:__)?unused(?:__)?\b|\[\[[^;]*\bunused\]\]"
     r"|\bmaybe_unused\]\]|\b[A-Z_]*UNUSED[A-Z_]*\b"
+)
+# A function's name in a declaration or a definition, as most write one: behind words of its type, or
+# where its line begins.
+DECLARED = re.compile(
+    r"^(?:[ \t]*(?!(?:return|else|case|goto)\b)[A-Za-z_][\w \t*]*[ \t*])?([A-Za-z_]\w*)[ \t]*\(",
+    re.MULTILINE,
 )
 
 
@@ -65,6 +71,10 @@ class Source:
             word.search(text) and re.search(UNUSED, text)
             for text in self.lines[max(first - 1, 0) : last]
         )
+
+    def declared(self) -> set[str]:
+        """The functions that it declares, and some names more."""
+        return set(DECLARED.findall(COMMENT.sub("", "\n".join(self.lines))))
 
     def macros(self) -> dict[str, str]:
         """The macros that it defines, by name."""

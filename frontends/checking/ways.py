@@ -48,16 +48,22 @@ LONGEST = 20
 class Excerpt:
     """What one activation of a function does to some of its locals, as a procedure.
 
-    own: what stands for each local. never: the lines of the program that are never reached. uses:
-    the step that reads locals where a step of the function does.
+    own: what stands for each local. never: the lines of the program that are never reached. reader:
+    the one step of the function whose reads it has, all where it is None. uses: the step that reads
+    locals where a step of the function does.
     """
 
     def __init__(
-        self, function: Procedure, own: dict[Variable, Variable], never: set[int]
+        self,
+        function: Procedure,
+        own: dict[Variable, Variable],
+        never: set[int],
+        reader: Step | None = None,
     ) -> None:
         self.function = function
         self.own = own
         self.never = never
+        self.reader = reader
         self.procedure = Procedure(f"{function.wish}__way", function.source, function.function)
         self.uses: dict[Step, Step] = {}
         self.nothing = Variable("t")
@@ -104,6 +110,8 @@ class Excerpt:
 
     def reads_of(self, step: Step) -> tuple[Variable, ...]:
         """What a step reads of the locals."""
+        if self.reader not in (None, step):
+            return ()
         return tuple(self.own[part] for part in step.reads() if part in self.own)
 
     def add(self, step: Step, kind: str, **parts: Any) -> Step:
@@ -150,11 +158,8 @@ class Ways:
         hops = paths.get((use.line, own.name)) if use else None
         if not hops:
             return ()
-        way = Way(excerpt.procedure, own, moves_of(excerpt.procedure, hops), self.sources)
-        found: dict[Note, bool] = {}
-        for note, is_setting in way.told():
-            found[note] = found.get(note, False) or is_setting
-        return tuple(few(found))
+        moves = moves_of(excerpt.procedure, hops)
+        return Way(excerpt.procedure, own, moves, self.sources).notes()
 
 
 class Move(NamedTuple):
@@ -196,6 +201,13 @@ class Way:
             if statement.kind == "cond" and statement.place
         ]
 
+    def notes(self) -> tuple[Note, ...]:
+        """What is to be said of it."""
+        found: dict[Note, bool] = {}
+        for note, is_setting in self.told():
+            found[note] = found.get(note, False) or is_setting
+        return tuple(few(found))
+
     def told(self) -> Iterator[tuple[Note, bool]]:
         """The notes of all moves, each with whether another way may set the local."""
         for number, move in enumerate(self.moves):
@@ -208,21 +220,16 @@ class Way:
 
     def outcome(self, move: Move) -> bool | None:
         """Whether a test leads to its label, None where that is not another place."""
-        ways = [self.behind_labels(at) for at in self.follow[move.at]]
+        ways = [behind_labels(self.steps, at) for at in self.follow[move.at]]
         return move.after == ways[1] if len(ways) == 2 and ways[0] != ways[1] else None
-
-    def behind_labels(self, at: int) -> int:
-        """The first step from a place on that is no label."""
-        while at < len(self.steps) and self.steps[at].kind == "label":
-            at += 1
-        return at
 
     def other_ways(self, number: int) -> tuple[bool, bool]:
         """Whether the other way of a test may set the local before it is back on this one, and
         whether it leads to the procedure's end.
         """
         move = self.moves[number]
-        waiting = [at for at in self.follow[move.at] if self.behind_labels(at) != move.after]
+        others = self.follow[move.at]
+        waiting = [at for at in others if behind_labels(self.steps, at) != move.after]
         seen: set[int] = set()
         ends = False
         while waiting:
@@ -294,6 +301,13 @@ def few(notes: dict[Note, bool]) -> list[Note]:
     others = [note for note in notes if note not in setting]
     kept = {*setting, *others[max(len(notes) - MOST, 0) :]}
     return [note for note in notes if note in kept]
+
+
+def behind_labels(steps: list[Step], at: int) -> int:
+    """The first step from a place on that is no label."""
+    while at < len(steps) and steps[at].kind == "label":
+        at += 1
+    return at
 
 
 def is_test(step: Step) -> bool:

@@ -23,6 +23,8 @@ output, as a compiler writes warnings. Each file is a program by itself, unless 
   --whole            these files are the whole program but for the C library: nothing else names
                      their variables and functions
   --together         these files are parts of one program
+  --executions       tell what holds on executions, by taclint in place of tacview: also dead
+                     assignments that only code which nothing leads to would hold back
   -p PATH            a compilation database, or the folder that has it: its C files, or those
                      named, with its options
   -j N               up to N processes
@@ -43,7 +45,7 @@ output, as a compiler writes warnings. Each file is a program by itself, unless 
   --cluster ADDRESS  have the workers of a Dask scheduler do the work
   --all              also remarks on what has no name in the source (gcc's temporaries, address
                      arithmetic), on arguments, and on jumps
-  --keep FOLDER      leave the program, its map and tacview's answer there; of several programs the
+  --keep FOLDER      leave the program, its map and the answer to it there; of several programs the
                      last one's
   --verbose          tell too which words of a database were left out, since gcc does not know them
   --version          tells the version
@@ -55,13 +57,13 @@ Options of gcc's go to gcc, but for those that ask for files, for optimisation o
 run. A comment `tacflow: ignore dead` silences remarks of a kind on its line, or on the next one
 where it stands by itself; so do NOLINT, NOLINTNEXTLINE and `cppcheck-suppress unreadVariable`.
 NO_COLOR takes the colours away, TACVIEW=/path/to/program another program in place of ../tacview,
-GCC=/path/to/gcc another compiler.
+TACLINT in place of ../taclint, GCC=/path/to/gcc another compiler.
 
 Status: 0 where the remarks were written, 1 where there are some under --error, 2 for bad words, 3
 where a file could not be analysed, a cluster not be used, or the remarks not be written; standard
 error says why.
 """
-FLAGS = ("--all", "--error", "--verbose", "--whole", "--together", "--merge")
+FLAGS = ("--all", "--error", "--executions", "--verbose", "--whole", "--together", "--merge")
 VALUES = (
     "--keep",
     "--kinds",

@@ -9,7 +9,7 @@ from collections import Counter
 from dataclasses import dataclass, field
 from typing import TYPE_CHECKING
 
-from . import operands
+from . import library, operands
 from .code import Procedure, Variable
 from .faults import Refusal
 
@@ -206,6 +206,19 @@ class World:
             endless,
             is_foreign,
         )
+
+    def without_body(self) -> set[str]:
+        """The functions that were asked for and have no body here, but for those that are known of
+        the C library, and weak ones, which need none.
+        """
+        found: set[str] = set()
+        for (file, declared), callee in self.callees.items():
+            source = operands.split_declared(declared)[0]
+            symbol = file.symbols.by_name.get(source)
+            is_here = callee.procedure is not None or callee.is_foreign
+            if not is_here and not (symbol and symbol.is_weak):
+                found |= {source} if library.behaviour(callee.name) == "unknown" else set()
+        return found
 
     def is_function(self, file: File, declared: str) -> bool:
         """Whether a declared name that is no variable of the function at hand is a function."""

@@ -18,6 +18,7 @@ import subprocess
 import sys
 
 import conditions
+import executions
 import words
 
 HERE = os.path.dirname(os.path.realpath(__file__))
@@ -111,6 +112,8 @@ def main() -> int:
         wrong |= {f"words {number}": lines for number, lines in enumerate(words.differences(), 1)}
         tried = enumerate(conditions.differences(), 1)
         wrong |= {f"conditions {number}": lines for number, lines in tried}
+        tried = enumerate(executions.differences(), 1)
+        wrong |= {f"executions {number}": lines for number, lines in tried}
     for name, lines in wrong.items():
         for line in lines:
             print(f"{name}: {line}")

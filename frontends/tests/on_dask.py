@@ -222,6 +222,11 @@ def wrong_answers(site: Site, sources: list[str]) -> Iterator[str]:
     note = b"part 2 failed on the cluster, and not here"
     if found[:2] != wanted[:2] or note not in found[2]:
         yield f"a part that fails: {difference(found, wanted)}"
+    for words in (["--executions"], ["--executions", "--together"]):
+        wanted = site.here([*words, *files])
+        found = ended(site.begin([*words, *files]))
+        if found != wanted or site.parts():
+            yield f"{words}: {site.parts()} {difference(found, wanted)}"
     command = site.command(sources, ["--cluster", site.address])
     yield from wrong_line(run_on_terminal(command, site.home, GCC=site.slow), len(sources))
 

@@ -19,7 +19,7 @@ from typing import TYPE_CHECKING, Any
 HERE = os.path.dirname(os.path.realpath(__file__))
 sys.path.insert(0, os.path.join(HERE, ".."))
 
-from checking import analysis, shares
+from checking import analysis, programs, shares
 from checking.compiling import Input
 from checking.remark import KINDS
 from checking.workers import Processes
@@ -50,7 +50,24 @@ NOTED = [
     (6, 8, "on the way the test is taken"),
     (8, 14, "used here too"),
 ]
+# A program of which a file is missing, though not the C library's.
+CALLER = """#include <stdlib.h>
+int printf(const char *, ...);
+int helper(int n);
+int *
+other(int n);
+extern int absent(void) __attribute__((weak));
+/* what sorts is
+   the usual qsort(v, c) */
+int main(int c, char **v)
+{
+    qsort(v, c, 1, 0);
+    printf("%d", absent());
+    return helper(c) + *other(c);
+}
+"""
 FILES = {
+    "caller.c": CALLER,
     "one.c": ONE_REMARK,
     "broken.c": BROKEN,
     "library.c": LIBRARY,
@@ -91,6 +108,9 @@ CASES = [
     ("--error --kinds never one.c", 0, r"0 remarks on"),
     ("-x c -j2 -o x.o -MF y.d -I . -DX=1 -std=gnu11 one.c z.o -lm", 0, r"1 remark on 1 file"),
     ("--whole one.c library.c", 0, r"2 remarks on 2 files: 1 dead, 1 never"),
+    ("--whole caller.c", 0, r"note: no file has a body of 'helper' and 1 more, which these files"),
+    ("--together caller.c", 0, r"^check-c: (note: tac.*\ncheck-c: )?0 remarks on 1 file$"),
+    ("--whole one.c", 0, r"^check-c: (note: tac.*\ncheck-c: )?1 remark on 1 file: 1 dead$"),
     ("--together one.c library.c", 0, r"2 remarks on 2 files: 2 dead"),
     ("one.c library.c one.c", 0, r"2 remarks on 2 files: 2 dead"),
     ("one.c broken.c library.c", 3, r"(?s)broken.c: gcc failed.*2 remarks on 3 files: 2 dead"),
@@ -185,7 +205,7 @@ def wrong_ways(folder: str) -> Iterator[str]:
         yield f"ways: {noted} {related} {text}"
     counting, count = os.path.join(folder, "counting"), os.path.join(folder, "count")
     with open(counting, "w", encoding="utf-8") as file:
-        file.write(f"#!/bin/sh\necho >>'{count}'\nexec '{analysis.tacview()}' \"$@\"\n")
+        file.write(f"#!/bin/sh\necho >>'{count}'\nexec '{programs.path_of('tacview')}' \"$@\"\n")
     os.chmod(counting, 0o755)
     for kinds, wanted in (("dead,unset", 1), ("dead,maybe-unset", 2)):
         env = dict(os.environ, TACVIEW=counting)
