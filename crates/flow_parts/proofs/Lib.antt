@@ -1,11 +1,11 @@
-mod ChosenRemarks
-mod Joining
-mod MergeLists
-mod MergedTexts
-mod Merging
-mod Numbers
-mod ReadingBack
-mod ReadingParts
-mod Wholes
+pub mod ChosenRemarks
+pub mod Joining
+pub mod MergeLists
+pub mod MergedTexts
+pub mod Merging
+pub mod Numbers
+pub mod ReadingBack
+pub mod ReadingParts
+pub mod Wholes
 mod Words
-mod WrittenLines
+pub mod WrittenLines

@@ -6,6 +6,7 @@ use Rattle.std.proofs.lemmas.Bool.{and_parts, eqb-true}
 use Rattle.std.proofs.lemmas.List.FromFn.{length-range_with_len}
 use Rattle.std.proofs.lemmas.List.Sorted.{length_permutation}
 use Rattle.part_texts.specs.Lines.{is_line_feed, is_space}
+use Rattle.part_texts.specs.declared.form.PartForm.TheVariants.{Report}
 use Rattle.flow_parts.specs.MergeLaws.{MergedTextsAreTheReport, counts_of, is_plain, read_as}
 use Rattle.flow_parts.specs.Parts.{part_of}
 use Rattle.flow_parts.proofs.Joining.{AreOfOne, in_range, merges}
@@ -49,9 +50,9 @@ texts_are program known digest count (k ∷ ks) sound rise fit is some few moved
     let spaces : Clear is_space digest = each_more _ (λ b. is_space b ≡ false) (λ b both. both.0) digest each in
     let feeds : Clear is_line_feed digest = each_more _ (λ b. is_line_feed b ≡ false) (λ b both. both.1) digest each in
     let same : (j : ℕ) → stands j (k ∷ ks) ≡ stands j (range_with_len 1 count) = λ j. stands_same j (range_with_len 1 count) (k ∷ ks) moved in
-    let one : AreOfOne (read_as digest program known count) digest (counts_of program) count =
-    record { number = λ j. refl; count_is = λ j. refl; digest_is = λ j. refl; counts_is = λ j. refl } in
-    merges (read_as digest program known count) (part_of digest program known count) digest (counts_of program) count one k ks
+    let one : AreOfOne (read_as digest program known count) Report digest (counts_of program) count =
+    record { form_is = λ j. refl; number = λ j. refl; count_is = λ j. refl; digest_is = λ j. refl; counts_is = λ j. refl } in
+    merges (read_as digest program known count) (part_of digest program known count) Report digest (counts_of program) count one k ks
     (λ j there.
     let within : (1 ≤ j) × (j < 1 + count) = bounds j 1 count (subst (λ n. 0 < n) (same j) there) in
     part_back program known digest count j sound fit spaces feeds within.0 (omega (arith, within.1)) few)

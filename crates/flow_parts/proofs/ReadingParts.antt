@@ -5,6 +5,7 @@ use Rattle.std.proofs.Common.{Option, Some, None, Result, Ok, Err, map, length, 
 use Rattle.std.proofs.Common.{sym, ap, ◌∙◌, arith, append_assoc, if◌then◌else◌, nat_lt, nat_le, nat_eq}
 use Rattle.std.proofs.Common.{option_and_then, option_map}
 use Rattle.std.specs.List.{All, after_first, before_first, ends_with, list_all, slice_split, starts_with}
+use Rattle.std.specs.Option.{option_or}
 use Rattle.std.specs.Str.Parse.{IsNumeral, digits_value}
 use Rattle.std.proofs.lemmas.Bool.{and_parts, lt-ltb, le-leb, ne_eqb}
 use Rattle.std.proofs.lemmas.Bool.Decides.{Decides-eqb}
@@ -30,13 +31,14 @@ use Rattle.flow_reports.specs.Reports.{Knowledge, remark_text}
 use Rattle.flow_reports.specs.declared.listed.PlacedRemark.{PlacedRemark}
 use Rattle.flow_reports.specs.declared.remark.Remark.{Remark}
 use Rattle.flow_reports.specs.declared.remark.Remark.TheVariants.{NeverReached, Unset, Computed, VeryBusy, Dead}
-use Rattle.part_texts.specs.Lines.{Line, behind_space, is_colon, is_line_feed, is_space, read_line, read_number}
+use Rattle.part_texts.specs.Lines.{Line, behind_words, is_colon, is_comma, is_line_feed, is_space, read_line, read_number}
 use Rattle.part_texts.specs.Lines.{kind_of as kind_by_words}
-use Rattle.part_texts.specs.Parts.{Heading, Part, end_words, fault_behind, heading_from, heading_of, is_end, read_heading}
+use Rattle.part_texts.specs.Parts.{Heading, Part, end_words, fault_behind, heading_from, heading_of, is_end, json_heading_of, read_heading}
 use Rattle.part_texts.specs.Shares.{most_parts}
 use Rattle.part_texts.specs.Parts.{read_lines, read_part, read_rows}
 use Rattle.part_texts.specs.Parts.{with_line, with_lines}
 use Rattle.part_texts.specs.declared.fault.PartFault.{PartFault}
+use Rattle.part_texts.specs.declared.form.PartForm.TheVariants.{Report}
 use Rattle.part_texts.specs.declared.fault.PartFault.TheVariants.{NoPart}
 use Rattle.part_texts.proofs.LineLists.{ends_there}
 use Rattle.flow_parts.specs.MergeLaws.{counts_of, line_in, read_as}
@@ -70,10 +72,10 @@ number_back most n le few =
 regroup : (p x o y d : List ℕ) → p ++ x ++ o ++ y ++ o ++ d ≡ p ++ (x ++ (o ++ (y ++ (o ++ d))))
 regroup p x o y d = simp append_assoc
 
-heading_back : (digest : List ℕ) (count k : ℕ) → Clear is_space digest → 1 ≤ k → k ≤ count → count ≤ 4096
-    → read_heading (codes "part " ++ decimal k ++ codes " of " ++ decimal count ++ codes " of " ++ digest)
-    ≡ Some (record { part = k; count = count; digest = digest })
-heading_back digest count k clear first last few =
+words_back : (digest : List ℕ) (count k : ℕ) → Clear is_space digest → 1 ≤ k → k ≤ count → count ≤ 4096
+    → heading_of (slice_split is_space (codes "part " ++ decimal k ++ codes " of " ++ decimal count ++ codes " of " ++ digest))
+    ≡ Some (record { form = Report; part = k; count = count; digest = digest })
+words_back digest count k clear first last few =
     let part_clear : Clear is_space (codes "part") = clear_all is_space (codes "part") refl in
     let of_clear : Clear is_space (codes "of") = clear_all is_space (codes "of") refl in
     let cons : List ℕ → List (List ℕ) → List (List ℕ) = λ x xs. x ∷ xs in
@@ -87,10 +89,18 @@ heading_back digest count k clear first last few =
     ∙ ap (cons (codes "of")) (split_there is_space 32 refl (decimal count) (codes "of" ++ 32 ∷ digest) (decimal_spaces count)
     ∙ ap (cons (decimal count)) (split_there is_space 32 refl (codes "of") digest of_clear
     ∙ ap (cons (codes "of")) (split_none is_space digest clear))))))
-    ∙ (λ i. heading_from (number_back most_parts k (omega (arith, last, few)) (omega (arith, last, few)) i)
+    ∙ (λ i. heading_from Report (number_back most_parts k (omega (arith, last, few)) (omega (arith, last, few)) i)
     (number_back most_parts count few (omega (arith, few)) i) digest)
     ∙ (λ i. if le-leb 1 k first i && (le-leb k count last i && le-leb count most_parts few i)
-    then Some (record { part = k; count = count; digest = digest }) else None)
+    then Some (record { form = Report; part = k; count = count; digest = digest }) else None)
+
+heading_back : (digest : List ℕ) (count k : ℕ) → Clear is_space digest → 1 ≤ k → k ≤ count → count ≤ 4096
+    → read_heading (codes "part " ++ decimal k ++ codes " of " ++ decimal count ++ codes " of " ++ digest)
+    ≡ Some (record { form = Report; part = k; count = count; digest = digest })
+heading_back digest count k clear first last few =
+    ap (λ found. option_or found
+    (json_heading_of (slice_split is_comma (codes "part " ++ decimal k ++ codes " of " ++ decimal count ++ codes " of " ++ digest))))
+    (words_back digest count k clear first last few)
 
 -- names, signs and expressions have no line feed
 letters_clear : (xs : List ℕ) → list_all is_name_byte xs ≡ true → Clear is_line_feed xs
@@ -248,11 +258,12 @@ kind_back program (Dead v) =
 -- a line reads back
 abbrev told : ℕ → List ℕ → Option ℕ → List ℕ → Option Line
 told part text number behind =
-    option_and_then (λ n. option_map (λ kind. record { number = n; kind = kind; part = part; text = text })
-    (option_and_then kind_by_words (behind_space behind))) number
+    option_map (λ mark. record { mark = mark; part = part; text = text })
+    (option_and_then (λ n. option_map (λ kind. record { section = 0; number = n; kind = kind })
+    (option_and_then kind_by_words (behind_words (codes " ") behind))) number)
 
 line_back : (program : Program) → ((p : ℕ) → line_at program p < 2 ^ 32) → (part : ℕ) (placed : PlacedRemark)
-    → read_line part (line_in program part placed).text ≡ Some (line_in program part placed)
+    → read_line Report part (line_in program part placed).text ≡ Some (line_in program part placed)
 line_back program fit part placed =
     let text : List ℕ = (line_in program part placed).text in
     let words : List ℕ = remark_text program placed.remark in
@@ -265,7 +276,8 @@ line_back program fit part placed =
     ap (after_first is_colon) grouped ∙ after_there is_colon 58 refl number (32 ∷ words) (decimal_colons (line_at program placed.point)) in
     (λ i. told part text (read_number 4294967295 (before i)) (after i))
     ∙ ap (λ n. told part text n (32 ∷ words)) (number_back 4294967295 (line_at program placed.point) (omega (arith, fits)) (omega (arith, fits)))
-    ∙ ap (λ k. option_map (λ kind. record { number = line_at program placed.point; kind = kind; part = part; text = text }) k)
+    ∙ ap (λ k. option_map (λ mark. record { mark = mark; part = part; text = text })
+    (option_map (λ kind. record { section = 0; number = line_at program placed.point; kind = kind }) k))
     (kind_back program placed.remark)
 
 -- the lines of a part read back
@@ -276,29 +288,29 @@ and_false : (b : Bool) → b && false ≡ false
 and_false true = refl
 and_false false = refl
 
-line_then : (part : ℕ) (line : List ℕ) (rest : List ℕ) (found : Line) → 0 < length rest → read_line part line ≡ Some found
-    → read_lines part (line ∷ slice_split is_line_feed rest) ≡ with_line found (read_lines part (slice_split is_line_feed rest))
+line_then : (part : ℕ) (line : List ℕ) (rest : List ℕ) (found : Line) → 0 < length rest → read_line Report part line ≡ Some found
+    → read_lines Report part (line ∷ slice_split is_line_feed rest) ≡ with_line found (read_lines Report part (slice_split is_line_feed rest))
 line_then part line rest found some reads =
     let others : List (List ℕ) = slice_split is_line_feed rest in
     let goes_on : is_end others ≡ false = ends_there rest ∙ ne_eqb (length rest) 0 (λ same. absurd (omega (arith, same, some))) in
-    ap (λ e. stepped (bytes_eq line (end_words part) && e) (read_line part line) (read_lines part others) (fault_behind others)) goes_on
-    ∙ ap (λ b. stepped b (read_line part line) (read_lines part others) (fault_behind others)) (and_false (bytes_eq line (end_words part)))
-    ∙ ap (λ found. stepped false found (read_lines part others) (fault_behind others)) reads
+    ap (λ e. stepped (bytes_eq line (end_words Report part) && e) (read_line Report part line) (read_lines Report part others) (fault_behind others)) goes_on
+    ∙ ap (λ b. stepped b (read_line Report part line) (read_lines Report part others) (fault_behind others)) (and_false (bytes_eq line (end_words Report part)))
+    ∙ ap (λ found. stepped false found (read_lines Report part others) (fault_behind others)) reads
 
-end_clear : (part : ℕ) → Clear is_line_feed (end_words part)
+end_clear : (part : ℕ) → Clear is_line_feed (end_words Report part)
 end_clear part = clear_append is_line_feed (codes "end ") (decimal part) (clear_all is_line_feed (codes "end ") refl) (decimal_lines part)
 
-last_back : (part : ℕ) → read_lines part (slice_split is_line_feed (end_line part)) ≡ Ok []
+last_back : (part : ℕ) → read_lines Report part (slice_split is_line_feed (end_line part)) ≡ Ok []
 last_back part =
-    ap (read_lines part) (split_there is_line_feed 10 refl (end_words part) [] (end_clear part))
-    ∙ ap (λ b. stepped (b && true) (read_line part (end_words part)) (read_lines part ([] ∷ [])) (fault_behind ([] ∷ [])))
-    ((bytes_eq-Decides (end_words part) (end_words part)).1 refl)
+    ap (read_lines Report part) (split_there is_line_feed 10 refl (end_words Report part) [] (end_clear part))
+    ∙ ap (λ b. stepped (b && true) (read_line Report part (end_words Report part)) (read_lines Report part ([] ∷ [])) (fault_behind ([] ∷ [])))
+    ((bytes_eq-Decides (end_words Report part) (end_words Report part)).1 refl)
 
 line_group : (t n l e : List ℕ) → t ++ n ++ l ++ e ≡ t ++ (n ++ (l ++ e))
 line_group t n l e = simp append_assoc
 
 lines_back : (program : Program) → IsSound program → ((p : ℕ) → line_at program p < 2 ^ 32) → (part : ℕ) (xs : List PlacedRemark)
-    → read_lines part (slice_split is_line_feed (part_lines program xs ++ end_line part)) ≡ Ok (map (line_in program part) xs)
+    → read_lines Report part (slice_split is_line_feed (part_lines program xs ++ end_line part)) ≡ Ok (map (line_in program part) xs)
 lines_back program sound fit part [] = last_back part
 lines_back program sound fit part (x ∷ xs) =
     let text : List ℕ = (line_in program part x).text in
@@ -307,11 +319,11 @@ lines_back program sound fit part (x ∷ xs) =
     clear_append is_line_feed (decimal (line_at program x.point) ++ codes ": ") (remark_text program x.remark)
     (clear_append is_line_feed (decimal (line_at program x.point)) (codes ": ") (decimal_lines (line_at program x.point))
     (clear_all is_line_feed (codes ": ") refl)) (remark_clear program sound x.remark) in
-    let long : length rest ≡ length (part_lines program xs ++ end_words part) + 1 =
-    ap length (sym (append_assoc (part_lines program xs) (end_words part) (codes "\n")))
-    ∙ length-append (part_lines program xs ++ end_words part) (codes "\n") in
-    ap (λ t. read_lines part (slice_split is_line_feed t)) (line_group text (codes "\n") (part_lines program xs) (end_line part))
-    ∙ ap (read_lines part) (split_there is_line_feed 10 refl text rest clear)
+    let long : length rest ≡ length (part_lines program xs ++ end_words Report part) + 1 =
+    ap length (sym (append_assoc (part_lines program xs) (end_words Report part) (codes "\n")))
+    ∙ length-append (part_lines program xs ++ end_words Report part) (codes "\n") in
+    ap (λ t. read_lines Report part (slice_split is_line_feed t)) (line_group text (codes "\n") (part_lines program xs) (end_line part))
+    ∙ ap (read_lines Report part) (split_there is_line_feed 10 refl text rest clear)
     ∙ line_then part text rest (line_in program part x) (omega (arith, long)) (line_back program fit part x)
     ∙ ap (with_line (line_in program part x)) (lines_back program sound fit part xs)
 
@@ -338,7 +350,7 @@ counts_clear program =
     (decimal_lines (length (expressions program)))
 
 abbrev behind : Option Heading → List ℕ → List (List ℕ) → Result Part PartFault
-behind found counts others = elim found [ Some heading ↦ with_lines heading counts (read_lines heading.part others) | None ↦ Err NoPart ]
+behind found counts others = elim found [ Some heading ↦ with_lines heading counts (read_lines heading.form heading.part others) | None ↦ Err NoPart ]
 
 pub part_back : (program : Program) (known : Knowledge) (digest : List ℕ) (count k : ℕ) → IsSound program → ((p : ℕ) → line_at program p < 2 ^ 32)
     → Clear is_space digest → Clear is_line_feed digest → 1 ≤ k → k ≤ count → count ≤ 4096
@@ -346,7 +358,7 @@ pub part_back : (program : Program) (known : Knowledge) (digest : List ℕ) (cou
 part_back program known digest count k sound fit spaces feeds first last few =
     let head : List ℕ = codes "part " ++ decimal k ++ codes " of " ++ decimal count ++ codes " of " ++ digest in
     let lines : List ℕ = part_lines program (part_remarks program known count k) in
-    let heading : Heading = record { part = k; count = count; digest = digest } in
+    let heading : Heading = record { form = Report; part = k; count = count; digest = digest } in
     let head_clear : Clear is_line_feed head =
     two_clear (codes "part " ++ decimal k ++ codes " of " ++ decimal count ++ codes " of ") digest
     (two_clear (codes "part " ++ decimal k ++ codes " of " ++ decimal count) (codes " of ")

@@ -24,30 +24,40 @@ passing text_of test (x ∷ xs) = by_test (test x) (passing text_of test xs)
     by_test true rest = ap (λ ys. text_of x ++ ys) rest
     by_test false rest = rest
 
--- what is written at a point
-abbrev pub lines_in : Program → Knowledge → (count part : ℕ) → ℕ → List ℕ
-lines_in program known count part point =
-    flat_map (λ remark. if is_in_part program count part remark then remark_line program point remark else []) (remarks_at program known point)
+-- what is written at a point, by what is written of a remark there
+abbrev pub texts_in : (text_of : ℕ → Remark → List ℕ) → Program → Knowledge → (count part : ℕ) → ℕ → List ℕ
+texts_in text_of program known count part point =
+    flat_map (λ remark. if is_in_part program count part remark then text_of point remark else []) (remarks_at program known point)
 
-lines_at_points : (program : Program) (known : Knowledge) (count part : ℕ) (ps : List ℕ) → flat_map (lines_in program known count part) ps
-    ≡ flat_map (λ placed. if is_in_part program count part placed.remark then remark_line program placed.point placed.remark else [])
+texts_at_points : (text_of : ℕ → Remark → List ℕ) (program : Program) (known : Knowledge) (count part : ℕ) (ps : List ℕ)
+    → flat_map (texts_in text_of program known count part) ps
+    ≡ flat_map (λ placed. if is_in_part program count part placed.remark then text_of placed.point placed.remark else [])
     (flat_map (λ point. placed_at point (remarks_at program known point)) ps)
-lines_at_points program known count part [] = refl
-lines_at_points program known count part (point ∷ ps) =
-    ap (λ t. lines_in program known count part point ++ t) (lines_at_points program known count part ps)
+texts_at_points text_of program known count part [] = refl
+texts_at_points text_of program known count part (point ∷ ps) =
+    ap (λ t. texts_in text_of program known count part point ++ t) (texts_at_points text_of program known count part ps)
     ∙ ap (λ t. t ++ flat_map all (flat_map (λ p. placed_at p (remarks_at program known p)) ps))
     (sym (flat_map-map all place (remarks_at program known point)))
     ∙ sym (flat_map-append all (placed_at point (remarks_at program known point)) (flat_map (λ p. placed_at p (remarks_at program known p)) ps))
   where
     all : PlacedRemark → List ℕ
-    all = λ placed. if is_in_part program count part placed.remark then remark_line program placed.point placed.remark else []
+    all = λ placed. if is_in_part program count part placed.remark then text_of placed.point placed.remark else []
 
     place : Remark → PlacedRemark
     place = λ remark. record { point = point; remark = remark }
 
+pub texts_are : (text_of : ℕ → Remark → List ℕ) (program : Program) (known : Knowledge) (count part : ℕ)
+    → flat_map (texts_in text_of program known count part) (points program)
+    ≡ flat_map (λ (placed : PlacedRemark). text_of placed.point placed.remark) (part_remarks program known count part)
+texts_are text_of program known count part =
+    texts_at_points text_of program known count part (points program)
+    ∙ passing (λ (placed : PlacedRemark). text_of placed.point placed.remark) (λ placed. is_in_part program count part placed.remark)
+    (remarks_of program known)
+
+-- of the lines of a report
+abbrev pub lines_in : Program → Knowledge → (count part : ℕ) → ℕ → List ℕ
+lines_in program known count part = texts_in (remark_line program) program known count part
+
 pub lines_are : (program : Program) (known : Knowledge) (count part : ℕ)
     → flat_map (lines_in program known count part) (points program) ≡ part_lines program (part_remarks program known count part)
-lines_are program known count part =
-    lines_at_points program known count part (points program)
-    ∙ passing (λ (placed : PlacedRemark). remark_line program placed.point placed.remark) (λ placed. is_in_part program count part placed.remark)
-    (remarks_of program known)
+lines_are program known count part = texts_are (remark_line program) program known count part

@@ -12,6 +12,7 @@ use Rattle.flow_reports.specs.declared.listed.PlacedRemark.{PlacedRemark}
 use Rattle.part_texts.specs.Lines.{Line, is_line_feed, is_space}
 use Rattle.part_texts.specs.Merges.{merged, report_of_parts}
 use Rattle.part_texts.specs.Parts.{Part}
+use Rattle.part_texts.specs.declared.form.PartForm.TheVariants.{Report}
 use Rattle.flow_parts.specs.PartLaws.{kind_of}
 use Rattle.flow_parts.specs.Parts.{part_of, part_remarks}
 
@@ -22,8 +23,7 @@ LinesRise program = (p q : ℕ) → p < q → IsSome (kind_at program p) → IsS
 -- the line of a remark in a part, as it is read
 abbrev pub line_in : Program → ℕ → PlacedRemark → Line
 line_in program part placed = record {
-  number = line_at program placed.point;
-  kind = kind_of placed.remark;
+  mark = record { section = 0; number = line_at program placed.point; kind = kind_of placed.remark };
   part = part;
   text = decimal (line_at program placed.point) ++ codes ": " ++ remark_text program placed.remark;
 }
@@ -37,7 +37,7 @@ counts_of program =
 -- a part of a report, as it is read
 abbrev pub read_as : (digest : List ℕ) → Program → Knowledge → (count part : ℕ) → Part
 read_as digest program known count part = record {
-  heading = record { part = part; count = count; digest = digest };
+  heading = record { form = Report; part = part; count = count; digest = digest };
   counts = counts_of program;
   lines = map (line_in program part) (part_remarks program known count part);
 }

@@ -9,5 +9,6 @@ mod parts;
 
 pub use digests::digest;
 pub use laws::{merged_parts_are_the_report, merged_texts_are_the_report, parts_are_the_report};
+pub use part_lines::is_remark_of_part;
 pub use parts::{PartText, part_bits, part_here};
 pub use std::alloc::AllocError as OutOfMemory;

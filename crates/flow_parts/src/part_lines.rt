@@ -84,6 +84,18 @@ fn is_in_part(graph: &Graph<'_>, share: Share, remark: Remark) -> bool
     }
 }
 
+/// Whether a remark is in a part.
+///
+/// The conditions: the part is from 1 on and at most the count, and that at most 4,096.
+pub fn is_remark_of_part(graph: &Graph<'_>, count: u32, part: u32, remark: Remark) -> bool
+    requires first { 1 ≤ part }
+    requires last { part ≤ count }
+    requires few { count ≤ 4096 }
+    ensures { result ≡ is_in_part graph.now count part remark }
+{
+    is_in_part(graph, Share { count, part }, remark)
+}
+
 // Writes the line of a remark.
 fn write_line<K: Sink>(out: &mut Pieces<'_, K>, found: &Findings<'_>, point: u32, remark: Remark)
     requires ready { CanWrite K.Sink out.old }

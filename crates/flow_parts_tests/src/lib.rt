@@ -2,6 +2,10 @@
 #![tactic(auto)]
 
 #[cfg(test)]
+mod json_merge_tests;
+#[cfg(test)]
+mod json_tests;
+#[cfg(test)]
 mod merge_tests;
 #[cfg(test)]
 mod part_tests;

@@ -63,7 +63,7 @@ fn parts_of_remarks(rt: HostRuntime) -> Result<(), Fail> {
 }
 
 // A program that adds to each of 1,100 variables, one on a line from line 2 on. None is set, and no sum is read.
-fn many_variables(alloc: Global) -> Result<String, Fail> {
+pub(crate) fn many_variables(alloc: Global) -> Result<String, Fail> {
     let mut text = String::from_str(alloc, "proc main\n")?;
     for number in 0u32..1_100 {
         let line = format!(in alloc; "  r = v{number} + 1\n")?;

@@ -7,6 +7,7 @@ use Rattle.part_texts.specs.Parts.{end_words, fault_behind, is_end, read_lines, 
 use Rattle.part_texts.specs.code.ReadParts.{IsCut, IsWhole}
 use Rattle.part_texts.specs.declared.fault.PartFault.{PartFault}
 use Rattle.part_texts.specs.declared.fault.PartFault.TheVariants.{CutShort, NoPart}
+use Rattle.part_texts.specs.declared.form.PartForm.{PartForm}
 
 -- what is read of lines behind these
 abbrev pub behind : List Line → Result (List Line) PartFault → Result (List Line) PartFault
@@ -66,34 +67,34 @@ fault_of_more (b ∷ text) = by (is_line_feed b)
 abbrev stepped : Bool → Option Line → Result (List Line) PartFault → PartFault → Result (List Line) PartFault
 stepped last found others fault = if last then Ok [] else elim found [ Some line ↦ with_line line others | None ↦ Err fault ]
 
-after_line : (part : ℕ) (line after : List ℕ) → read_lines part (line ∷ slice_split is_line_feed after)
-    ≡ stepped (bytes_eq line (end_words part) && (length after == 0)) (read_line part line) (read_lines part (slice_split is_line_feed after)) NoPart
-after_line part line after =
-    ap (λ e. stepped (bytes_eq line (end_words part) && e) (read_line part line) (read_lines part (slice_split is_line_feed after))
+after_line : (form : PartForm) (part : ℕ) (line after : List ℕ) → read_lines form part (line ∷ slice_split is_line_feed after)
+    ≡ stepped (bytes_eq line (end_words form part) && (length after == 0)) (read_line form part line) (read_lines form part (slice_split is_line_feed after)) NoPart
+after_line form part line after =
+    ap (λ e. stepped (bytes_eq line (end_words form part) && e) (read_line form part line) (read_lines form part (slice_split is_line_feed after))
     (fault_behind (slice_split is_line_feed after))) (ends_there after)
-    ∙ ap (stepped (bytes_eq line (end_words part) && (length after == 0)) (read_line part line) (read_lines part (slice_split is_line_feed after)))
+    ∙ ap (stepped (bytes_eq line (end_words form part) && (length after == 0)) (read_line form part line) (read_lines form part (slice_split is_line_feed after)))
     (fault_of_more after)
 
 -- the steps of a reader, line by line
-pub reads_end : (part : ℕ) (text line after : List ℕ) → IsCut is_line_feed text line after
-    → bytes_eq line (end_words part) && (length after == 0) ≡ true
-    → read_lines part (slice_split is_line_feed text) ≡ Ok []
-reads_end part text line after cut last = ap (read_lines part) cut.split ∙ after_line part line after
-    ∙ ap (λ b. stepped b (read_line part line) (read_lines part (slice_split is_line_feed after)) NoPart) last
+pub reads_end : (form : PartForm) (part : ℕ) (text line after : List ℕ) → IsCut is_line_feed text line after
+    → bytes_eq line (end_words form part) && (length after == 0) ≡ true
+    → read_lines form part (slice_split is_line_feed text) ≡ Ok []
+reads_end form part text line after cut last = ap (read_lines form part) cut.split ∙ after_line form part line after
+    ∙ ap (λ b. stepped b (read_line form part line) (read_lines form part (slice_split is_line_feed after)) NoPart) last
 
-pub reads_line : (part : ℕ) (text line after : List ℕ) (found : Line) → IsCut is_line_feed text line after
-    → bytes_eq line (end_words part) && (length after == 0) ≡ false → read_line part line ≡ Some found
-    → read_lines part (slice_split is_line_feed text) ≡ with_line found (read_lines part (slice_split is_line_feed after))
-reads_line part text line after found cut goes reads = ap (read_lines part) cut.split ∙ after_line part line after
-    ∙ ap (λ b. stepped b (read_line part line) (read_lines part (slice_split is_line_feed after)) NoPart) goes
-    ∙ ap (λ found. stepped false found (read_lines part (slice_split is_line_feed after)) NoPart) reads
+pub reads_line : (form : PartForm) (part : ℕ) (text line after : List ℕ) (found : Line) → IsCut is_line_feed text line after
+    → bytes_eq line (end_words form part) && (length after == 0) ≡ false → read_line form part line ≡ Some found
+    → read_lines form part (slice_split is_line_feed text) ≡ with_line found (read_lines form part (slice_split is_line_feed after))
+reads_line form part text line after found cut goes reads = ap (read_lines form part) cut.split ∙ after_line form part line after
+    ∙ ap (λ b. stepped b (read_line form part line) (read_lines form part (slice_split is_line_feed after)) NoPart) goes
+    ∙ ap (λ found. stepped false found (read_lines form part (slice_split is_line_feed after)) NoPart) reads
 
-pub reads_fault : (part : ℕ) (text line after : List ℕ) → IsCut is_line_feed text line after
-    → bytes_eq line (end_words part) && (length after == 0) ≡ false → read_line part line ≡ None
-    → read_lines part (slice_split is_line_feed text) ≡ Err NoPart
-reads_fault part text line after cut goes reads = ap (read_lines part) cut.split ∙ after_line part line after
-    ∙ ap (λ b. stepped b (read_line part line) (read_lines part (slice_split is_line_feed after)) NoPart) goes
-    ∙ ap (λ found. stepped false found (read_lines part (slice_split is_line_feed after)) NoPart) reads
+pub reads_fault : (form : PartForm) (part : ℕ) (text line after : List ℕ) → IsCut is_line_feed text line after
+    → bytes_eq line (end_words form part) && (length after == 0) ≡ false → read_line form part line ≡ None
+    → read_lines form part (slice_split is_line_feed text) ≡ Err NoPart
+reads_fault form part text line after cut goes reads = ap (read_lines form part) cut.split ∙ after_line form part line after
+    ∙ ap (λ b. stepped b (read_line form part line) (read_lines form part (slice_split is_line_feed after)) NoPart) goes
+    ∙ ap (λ found. stepped false found (read_lines form part (slice_split is_line_feed after)) NoPart) reads
 
 no_end : (b : Bool) → b && false ≡ false
 no_end true = refl
@@ -103,8 +104,8 @@ never : (found : Option Line) → stepped false found (Err CutShort) CutShort �
 never (Some line) = refl
 never None = refl
 
-pub reads_short : (part : ℕ) (text : List ℕ) → IsWhole is_line_feed text → read_lines part (slice_split is_line_feed text) ≡ Err CutShort
-reads_short part text whole =
-    ap (read_lines part) whole.split
-    ∙ ap (λ b. stepped b (read_line part text) (Err CutShort) CutShort) (no_end (bytes_eq text (end_words part)))
-    ∙ never (read_line part text)
+pub reads_short : (form : PartForm) (part : ℕ) (text : List ℕ) → IsWhole is_line_feed text → read_lines form part (slice_split is_line_feed text) ≡ Err CutShort
+reads_short form part text whole =
+    ap (read_lines form part) whole.split
+    ∙ ap (λ b. stepped b (read_line form part text) (Err CutShort) CutShort) (no_end (bytes_eq text (end_words form part)))
+    ∙ never (read_line form part text)

@@ -1,11 +1,15 @@
-//! Texts of parts of a report that several machines made: what is read of them, and the report that they make.
+//! Texts of parts of a report, or of lines of JSON, that several machines made: what is read of them, and what they make.
 #![tactic(auto)]
 
 mod cuts;
 pub mod examples;
 mod fault;
+mod form;
 mod heading;
+mod json_heading;
+mod json_line;
 mod line;
+mod mark;
 mod merges;
 mod number;
 mod read;
@@ -13,6 +17,7 @@ mod share;
 mod shares;
 
 pub use fault::{MergeFault, PartFault};
+pub use form::PartForm;
 pub use heading::MOST_PARTS;
 pub use merges::merge;
 pub use share::Share;

@@ -1,19 +1,20 @@
 // Lines of a part.
 
-ghost use Rattle.std.specs.Prelude.{◌≡◌, ◌<◌, IfSome};
-ghost use Rattle.part_texts.specs.Lines.{kind_of, place as place_of, read_line};
-ghost use Rattle.part_texts.specs.code.ReadParts.{line_of, some_line};
+ghost use Rattle.std.specs.Prelude.{◌≡◌};
+ghost use Rattle.part_texts.specs.Lines.{kind_of, mark_of, read_line, report_mark};
+ghost use Rattle.part_texts.specs.code.ReadParts.{some_line};
 
 use crate::cuts::cut;
+use crate::form::PartForm;
+use crate::json_line::json_mark;
+use crate::mark::Mark;
 use crate::number::read_number;
 
 /// A line of a part, without its line feed.
 #[derive(Clone, Copy)]
 pub(crate) struct PartLine<'a> {
-    /// The line of the program on which it is.
-    pub(crate) number: u32,
-    /// The place of its kind among those on a line.
-    pub(crate) kind: u32,
+    /// Where it stands.
+    pub(crate) mark: Mark,
     /// The part in which it stands.
     pub(crate) part: u32,
     /// Its bytes.
@@ -22,8 +23,7 @@ pub(crate) struct PartLine<'a> {
 
 // The place of a remark's kind among those on a line, told by its words.
 fn kind(words: &[u8]) -> Option<u32>
-    ensures value { result ≡ kind_of words.now }
-    ensures few { IfSome result (λ kind. kind < 5) }
+    ensures { result ≡ kind_of words.now }
 {
     if words == b"never reached".as_slice() {
         return Some(0);
@@ -43,18 +43,35 @@ fn kind(words: &[u8]) -> Option<u32>
     None
 }
 
-/// The remark that a line of a part makes, where it makes one.
-pub(crate) fn read_line(text: &[u8], part: u32) -> Option<PartLine<'_>>
-    ensures { some_line result ≡ read_line part text.now }
+// Where a line of a report stands.
+fn report_mark(text: &[u8]) -> Option<Mark>
+    ensures { result ≡ report_mark text.now }
 {
     let (digits, behind) = cut(text, b':')?;
     let number = read_number(digits, u32::MAX)?;
     let words = behind.strip_prefix(b" ")?;
     let kind = kind(words)?;
-    Some(PartLine {
+    Some(Mark {
+        section: 0,
         number,
         kind,
-        part,
-        text,
     })
+}
+
+// Where a line of a part in this form stands.
+fn mark_of(form: PartForm, text: &[u8]) -> Option<Mark>
+    ensures { result ≡ mark_of form text.now }
+{
+    match form {
+        PartForm::Report => report_mark(text),
+        PartForm::Json => json_mark(text),
+    }
+}
+
+/// The line of a part in this form that a text is, where it is one.
+pub(crate) fn read_line(form: PartForm, text: &[u8], part: u32) -> Option<PartLine<'_>>
+    ensures { some_line result ≡ read_line form part text.now }
+{
+    let mark = mark_of(form, text)?;
+    Some(PartLine { mark, part, text })
 }

@@ -1,4 +1,4 @@
-// The report that parts make.
+// What parts make: the report, or lines of JSON.
 
 ghost use Rattle.std.specs.Prelude.{◌≡◌, ◌++◌, [], IfOk, OnOk, codes, flat_map, map};
 ghost use Rattle.part_texts.specs.Lines.{place as place_of};
@@ -8,6 +8,7 @@ ghost use Rattle.part_texts.specs.code.ReadParts.{line_of, part_in, told_as};
 
 use crate::OutOfMemory;
 use crate::fault::{MergeFault, PartFault};
+use crate::form::is_same_form;
 use crate::line::PartLine;
 use crate::read::{ReadPart, read_part};
 use std::alloc::Global;
@@ -31,6 +32,9 @@ fn against(parts: &[ReadPart<'_>], part: &ReadPart<'_>) -> Option<PartFault>
     let Some(first) = parts.first() else {
         return None;
     };
+    if !is_same_form(part.heading.form, first.heading.form) {
+        return Some(PartFault::OtherForm);
+    }
     if part.heading.digest != first.heading.digest || part.counts != first.counts {
         return Some(PartFault::OtherProgram);
     }
@@ -107,7 +111,8 @@ fn missing(parts: &[ReadPart<'_>]) -> Option<u32>
 fn place(line: &PartLine<'_>) -> u64
     ensures { result ≡ place_of (line_of line.now) }
 {
-    (5 * u64::from(line.number) + u64::from(line.kind)) * 8_192 + u64::from(line.part)
+    let number = 4_294_967_296 * u64::from(line.mark.section) + u64::from(line.mark.number);
+    (5 * number + u64::from(line.mark.kind)) * 8_192 + u64::from(line.part)
 }
 
 // Puts the lines of a part behind others.
@@ -160,7 +165,7 @@ fn report(alloc: Global, parts: &[ReadPart<'_>]) -> Result<Vec<u8>, OutOfMemory>
     Ok(text)
 }
 
-/// The report that the texts of its parts make, in whatever order they stand, or the first fault. Fails only where memory runs out.
+/// The report, or the lines of JSON, that the texts of its parts make, in whatever order they stand, or the first fault. Fails only where memory runs out.
 ///
 /// The work is linear in the texts, but for what sorting their lines takes and for comparing the numbers of the parts with one another.
 pub fn merge(alloc: Global, texts: &[&[u8]]) -> Result<Result<Vec<u8>, MergeFault>, OutOfMemory>

@@ -1,14 +1,15 @@
 // What is read of the text of a part.
 
-ghost use Rattle.std.specs.Prelude.{◌≡◌, ◌++◌, ◌&&◌, ◌==◌, IfOk, bytes_eq, codes, length, map};
+ghost use Rattle.std.specs.Prelude.{◌≡◌, ◌&&◌, ◌==◌, IfOk, bytes_eq, length, map};
 ghost use Rattle.std.specs.List.{slice_split};
 ghost use Rattle.part_texts.specs.Lines.{is_line_feed};
-ghost use Rattle.part_texts.specs.Parts.{read_lines, read_part};
+ghost use Rattle.part_texts.specs.Parts.{end_words, read_lines, read_part};
 ghost use Rattle.part_texts.specs.code.ReadParts.{line_of, part_in, told_as};
 
 use crate::OutOfMemory;
 use crate::cuts::cut;
 use crate::fault::PartFault;
+use crate::form::PartForm;
 use crate::heading::{ReadHeading, read_heading};
 use crate::line::{PartLine, read_line};
 use itoa::Buffer;
@@ -19,46 +20,57 @@ use std::alloc::Global;
 pub(crate) struct ReadPart<'a> {
     /// Its first line.
     pub(crate) heading: ReadHeading<'a>,
-    /// The report's first line.
+    /// The first line of what is in parts.
     pub(crate) counts: &'a [u8],
-    /// The lines of its remarks.
+    /// Its lines behind that.
     pub(crate) lines: Vec<PartLine<'a>>,
 }
 
-// Whether a line is the last one of a part.
-fn is_last_line(line: &[u8], part: &[u8]) -> bool
-    ensures { result ≡ bytes_eq line.now (codes "end " ++ part.now) }
+// The last line of a part in this form, without its line feed.
+fn last_line(alloc: Global, form: PartForm, part: u32) -> Result<Vec<u8>, OutOfMemory>
+    ensures { IfOk result (λ words. words.items ≡ end_words form part) }
 {
-    match line.strip_prefix(b"end ") {
-        Some(number) => number == part,
-        None => false,
+    let mut digits = Buffer::new();
+    let number = digits.format(part).as_bytes();
+    let mut words = Vec::new(alloc);
+    match form {
+        PartForm::Report => {
+            words.extend_from_slice(b"end ")?;
+            words.extend_from_slice(number)?;
+        },
+        PartForm::Json => {
+            words.extend_from_slice(b"{\"type\":\"end-part\",\"part\":")?;
+            words.extend_from_slice(number)?;
+            words.extend_from_slice(b"}")?;
+        },
     }
+    Ok(words)
 }
 
-// Whether a line, and what stands behind it, end a part.
-fn ends_part(line: &[u8], behind: &[u8], part: &[u8]) -> bool
-    ensures { result ≡ (bytes_eq line.now (codes "end " ++ part.now) && (length behind.now == 0)) }
+// Whether a line, and what stands behind it, end a part with this last line.
+fn ends_part(line: &[u8], behind: &[u8], last: &[u8]) -> bool
+    ensures { result ≡ (bytes_eq line.now last.now && (length behind.now == 0)) }
 {
-    is_last_line(line, part) && behind.is_empty()
+    line == last && behind.is_empty()
 }
 
 // The lines of a part behind its first two.
 fn read_lines<'a>(
     alloc: Global,
     text: &'a [u8],
+    form: PartForm,
     part: u32,
 ) -> Result<Result<Vec<PartLine<'a>>, PartFault>, OutOfMemory>
-    ensures { IfOk result (λ r. told_as (λ lines. map line_of lines.items) r ≡ read_lines part (slice_split is_line_feed text.now)) }
+    ensures { IfOk result (λ r. told_as (λ lines. map line_of lines.items) r ≡ read_lines form part (slice_split is_line_feed text.now)) }
 {
-    let mut digits = Buffer::new();
-    let number = digits.format(part).as_bytes();
+    let last = last_line(alloc, form, part)?;
     let mut lines = Vec::new(alloc);
     let mut rest = text;
     while let Some((line, behind)) = cut(rest, b'\n') {
-        if ends_part(line, behind, number) {
+        if ends_part(line, behind, &last) {
             return Ok(Ok(lines));
         }
-        match read_line(line, part) {
+        match read_line(form, line, part) {
             Some(found) => lines.push(found)?,
             None => return Ok(Err(PartFault::NoPart)),
         }
@@ -83,7 +95,7 @@ pub(crate) fn read_part(
     let Some((counts, rest)) = cut(behind, b'\n') else {
         return Ok(Err(PartFault::CutShort));
     };
-    match read_lines(alloc, rest, heading.part)? {
+    match read_lines(alloc, rest, heading.form, heading.part)? {
         Ok(lines) => Ok(Ok(ReadPart {
             heading,
             counts,

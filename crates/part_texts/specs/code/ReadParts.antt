@@ -25,14 +25,14 @@ told_as tell (Ok good) = Ok (tell good)
 told_as tell (Err fault) = Err fault
 
 abbrev pub line_of : PartLine → Line
-line_of line = record { number = line.number; kind = line.kind; part = line.part; text = line.text.now }
+line_of line = record { mark = line.mark; part = line.part; text = line.text.now }
 
 abbrev pub some_line : Option PartLine → Option Line
 some_line (Some line) = Some (line_of line)
 some_line None = None
 
 abbrev pub heading_in : ReadHeading → Heading
-heading_in heading = record { part = heading.part; count = heading.count; digest = heading.digest.now }
+heading_in heading = record { form = heading.form; part = heading.part; count = heading.count; digest = heading.digest.now }
 
 abbrev pub some_heading : Option ReadHeading → Option Heading
 some_heading (Some heading) = Some (heading_in heading)

@@ -10,24 +10,24 @@ use Rattle.part_texts.proofs.read.read_lines.Goals as goal
 
 pub returns-in-None : goal.returns-in-None
 returns-in-None c =
-    sym (ap (behind (map line_of c.loop-line.lines.items)) (reads_fault _ _ _ _ c.in-Some.ensures
-    (ap (λ number. bytes_eq c.in-Some.line.now (codes "end " ++ number) && (length c.in-Some.behind.now == 0)) (sym c.loop-line.invariant.digits)
+    sym (ap (behind (map line_of c.loop-line.lines.items)) (reads_fault _ _ _ _ _ c.in-Some.ensures
+    (ap (λ last. bytes_eq c.in-Some.line.now last && (length c.in-Some.behind.now == 0)) (sym c.loop-line.invariant.ends ∙ sym c.deref.ensures.value)
     ∙ sym c.ends_part.ensures ∙ c.if-ends_part.false) (sym c.in-None.ensures)))
     ∙ c.loop-line.invariant.reads
 
 pub returns : goal.returns
-returns c = sym (ap (behind (map line_of c.loop-line.lines.items)) (reads_short c.args.part c.loop-line.rest.now c.in_default.ensures))
+returns c = sym (ap (behind (map line_of c.loop-line.lines.items)) (reads_short c.args.form c.args.part c.loop-line.rest.now c.in_default.ensures))
     ∙ c.loop-line.invariant.reads
 
 pub loop-line-preserved : goal.loop-line-preserved
 loop-line-preserved c = record {
-  reads = ap (λ lines. behind lines (read_lines c.args.part (slice_split is_line_feed c.in-Some.behind.now)))
+  reads = ap (λ lines. behind lines (read_lines c.args.form c.args.part (slice_split is_line_feed c.in-Some.behind.now)))
       (ap (map line_of) c.in_ok-push-in-Some-read_line.ensures.items ∙ map-append line_of c.loop-line.lines.items (c.in-Some-read_line.found ∷ []))
       ∙ behind_more (map line_of c.loop-line.lines.items) (line_of c.in-Some-read_line.found)
-      (read_lines c.args.part (slice_split is_line_feed c.in-Some.behind.now))
-      ∙ sym (ap (behind (map line_of c.loop-line.lines.items)) (reads_line _ _ _ _ _ c.in-Some.ensures
-      (ap (λ number. bytes_eq c.in-Some.line.now (codes "end " ++ number) && (length c.in-Some.behind.now == 0)) (sym c.loop-line.invariant.digits)
+      (read_lines c.args.form c.args.part (slice_split is_line_feed c.in-Some.behind.now))
+      ∙ sym (ap (behind (map line_of c.loop-line.lines.items)) (reads_line _ _ _ _ _ _ c.in-Some.ensures
+      (ap (λ last. bytes_eq c.in-Some.line.now last && (length c.in-Some.behind.now == 0)) (sym c.loop-line.invariant.ends ∙ sym c.deref.ensures.value)
       ∙ sym c.ends_part.ensures ∙ c.if-ends_part.false) (sym c.in-Some-read_line.ensures)))
       ∙ c.loop-line.invariant.reads;
-  digits = c.loop-line.invariant.digits;
+  ends = c.loop-line.invariant.ends;
 }

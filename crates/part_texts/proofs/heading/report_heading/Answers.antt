@@ -1,7 +1,7 @@
 use Rattle.std.proofs.Common.{◌≡◌, None, ◌∷◌, List, ℕ, sym, ap, ◌∙◌}
 use Rattle.part_texts.specs.Parts.{heading_of}
 use Rattle.part_texts.proofs.Words.{more_words}
-use Rattle.part_texts.proofs.heading.read_heading.Goals as goal
+use Rattle.part_texts.proofs.heading.report_heading.Goals as goal
 
 pub returns-in-Some : goal.returns-in-Some
 returns-in-Some c =

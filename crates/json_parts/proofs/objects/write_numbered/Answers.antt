@@ -1,0 +1,5 @@
+use Rattle.text_pieces.proofs.sinks.Taking.{takes_then}
+use Rattle.json_parts.proofs.objects.write_numbered.Goals as goal
+
+pub returns : goal.returns
+returns g c = takes_then _ _ _ _ _ c.write.ensures c.write_number.ensures

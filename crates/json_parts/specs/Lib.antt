@@ -1,0 +1,2 @@
+pub mod JsonParts
+pub mod code
