@@ -12,14 +12,21 @@ all_chosen = record { reach = true; live = true; avail = true; busy = true }
 
 -- facts before statements alone, with the dummy definitions
 abbrev pub plain_look : Look
-plain_look = record { hides_entry = false; behind = false; hovers = false; legend = false }
+plain_look = record { hides_entry = false; behind = false; hovers = false; legend = false; changes = false }
 
 -- facts behind statements too, with the dummy definitions and without them
 abbrev pub with_entry : Look
-with_entry = record { hides_entry = false; behind = true; hovers = false; legend = false }
+with_entry = record { hides_entry = false; behind = true; hovers = false; legend = false; changes = false }
 
 abbrev pub without_entry : Look
-without_entry = record { hides_entry = true; behind = true; hovers = false; legend = false }
+without_entry = record { hides_entry = true; behind = true; hovers = false; legend = false; changes = false }
+
+-- what changes in place of sets, behind statements too
+abbrev pub changing_with_entry : View
+changing_with_entry = record { facts = all_chosen; procedure = None; look = record with_entry { changes = true } }
+
+abbrev pub changing_without_entry : View
+changing_without_entry = record { facts = all_chosen; procedure = None; look = record without_entry { changes = true } }
 
 -- all procedures, with facts behind statements
 abbrev pub behind_with_entry : View

@@ -8,7 +8,8 @@ ghost use Rattle.point_sets.specs.SetLines.{set_lines};
 ghost use Rattle.flow_views.specs.Json.{json_of};
 ghost use Rattle.text_pieces.specs.Strings.{escaped, quoted};
 ghost use Rattle.flow_views.specs.Views.{shown_points};
-ghost use Rattle.checked_examples.specs.WorkedViews.{behind_with_entry, behind_without_entry, first_alone, hovering, plain};
+ghost use Rattle.checked_examples.specs.WorkedViews.{behind_with_entry, behind_without_entry, changing_with_entry, changing_without_entry};
+ghost use Rattle.checked_examples.specs.WorkedViews.{first_alone, hovering, plain};
 ghost use Rattle.checked_examples.specs.WorkedViews.{reach_and_live, second_alone};
 
 /// A quote and a backslash have a backslash before them, and nothing else has.
@@ -83,6 +84,21 @@ pub fn behind_examples()
         ++ codes "avail: -\\lavail behind: -\\lbusy: b + c\\lbusy behind: b + c\\l\", peripheries=2];\n"
         ++ codes "    4 [id=\"point4\", class=\"point unreached\", label=\"end of f\\lreach: -\\llive: b, c\\lavail: b + c\\l"
         ++ codes "busy: b + c\\l\", style=filled, fillcolor=grey80];\n  }\n" }
+{}
+
+/// What comes and what goes from point to point, and through a statement: with the dummy definitions and without them; and at the first point of a
+/// procedure, where all that holds came.
+pub fn change_examples()
+    ensures sum { label_text adds_to_itself known_of_sum changing_with_entry 0
+        ≡ codes "2: x = x + y\\lx may be used before it is set\\ly may be used before it is set\\lassignment to x is dead\\l"
+        ++ codes "reach came: x@entry, y@entry\\lreach came behind: x@2\\lreach went behind: x@entry\\llive came: x, y\\l"
+        ++ codes "live went behind: x, y\\lbusy came: x + y\\lbusy went behind: x + y\\l" }
+    ensures end { label_text adds_to_itself known_of_sum changing_with_entry 1
+        ≡ codes "end of main\\lreach came: x@2\\lreach went: x@entry\\llive went: x, y\\lbusy went: x + y\\l" }
+    ensures hidden { label_text adds_to_itself known_of_sum changing_without_entry 1
+        ≡ codes "end of main\\lreach came: x@2\\llive went: x, y\\lbusy went: x + y\\l" }
+    ensures first { label_text calls_endless known_of_endless_callee changing_without_entry 3
+        ≡ codes "L:\\l6: goto L\\lbusy came: b + c\\l" }
 {}
 
 /// Sets in lines: a name that ends where a line does with its comma, one sign more, a name that is longer than a line, and no names.

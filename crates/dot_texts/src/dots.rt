@@ -14,7 +14,7 @@ ghost use Rattle.flow_views.specs.code.ViewProgram.{known_of, numbers_of};
 ghost use Rattle.flow_views.specs.declared.names.NameForm.TheVariants.{Escaped};
 ghost use Rattle.flow_views.specs.Dots.{IsDot, across, all_clusters, arrow, behind_if, cluster, edge_line, edge_lines, fact_lines, facts_in_lines, head};
 ghost use Rattle.flow_views.specs.Dots.{is_edge_shown, label_line, label_text, label_title, lines_on, node, node_body, open_dot, outcome_label};
-ghost use Rattle.flow_views.specs.Dots.{outcome_mark, passed_call, set_names, shown_clusters, shown_edge, text_if, title, tooltip};
+ghost use Rattle.flow_views.specs.Dots.{outcome_mark, passed_call, set_names, shown_clusters, shown_edge, text_if, title, told_on, tooltip};
 ghost use Rattle.point_sets.specs.SetLines.{columns};
 ghost use Rattle.point_sets.specs.Sets.{has_behind};
 ghost use Rattle.point_sets.specs.code.Lines.{set_from};
@@ -23,6 +23,7 @@ ghost use Rattle.text_pieces.specs.Strings.{escaped};
 ghost use Rattle.flow_views.specs.Views.{analysis_if, names_at, outcome, procedure_name, is_chosen};
 
 use crate::OutOfMemory;
+use crate::changes::write_changes_on;
 use crate::legend::write_legend;
 use crate::marks::{write_look, write_node_names};
 use flow_graph::{Analysis, Edge, Graph};
@@ -234,6 +235,31 @@ fn write_lines_on<K: Sink>(
     out.write(b"\\l");
 }
 
+// Writes the set of an analysis on a side of a statement, or what changes up to it.
+fn write_told_on<K: Sink>(
+    shown: &ViewProgram<'_>,
+    out: &mut Pieces<'_, K>,
+    table: &Table,
+    point: u32,
+    side: Side,
+)
+    requires ready { CanWrite K.Sink out.old }
+    requires shown { AreShown shown.now }
+    requires form { shown.now.names.form ≡ Escaped }
+    requires table { IsShownTable shown.now table.now }
+    requires point { point < point_count shown.now.found.graph.now }
+    requires shows { IsShownPoint shown.now point }
+    requires side { side ≡ Behind → has_behind shown.now.found.graph.now point ≡ true }
+    ensures { Writes K.Sink out.old out.new
+        (flat_map label_line (told_on shown.now.found.graph.now (known_of shown.now) shown.now.view point table.now.analysis side)) }
+{
+    if shown.view.look.changes {
+        write_changes_on(shown, out, table, point, side);
+    } else {
+        write_lines_on(shown, out, table, point, side);
+    }
+}
+
 // Whether the sets behind the statement at a point are shown.
 fn shows_behind(shown: &ViewProgram<'_>, point: u32) -> bool
     requires { point < point_count shown.now.found.graph.now }
@@ -256,13 +282,13 @@ fn write_behind_if<K: Sink>(
     requires point { point < point_count shown.now.found.graph.now }
     requires shows { IsShownPoint shown.now point }
     ensures { Writes K.Sink out.old out.new
-        (flat_map (λ s. flat_map label_line (lines_on shown.now.found.graph.now (known_of shown.now) shown.now.view point table.now.analysis s))
+        (flat_map (λ s. flat_map label_line (told_on shown.now.found.graph.now (known_of shown.now) shown.now.view point table.now.analysis s))
         (behind_if (shown.now.view.look.behind && has_behind shown.now.found.graph.now point))) }
 {
     if !shows_behind(shown, point) {
         return;
     }
-    write_lines_on(shown, out, table, point, Side::Behind);
+    write_told_on(shown, out, table, point, Side::Behind);
 }
 
 // Writes what an analysis tells at a point, where it is chosen.
@@ -284,7 +310,7 @@ fn write_fact_if<K: Sink>(
     let Some(table) = shown.table(analysis) else {
         return;
     };
-    write_lines_on(shown, out, table, point, Side::Before);
+    write_told_on(shown, out, table, point, Side::Before);
     write_behind_if(shown, out, table, point);
 }
 
@@ -607,7 +633,7 @@ pub fn write_open_dot<K: Sink>(shown: &ViewProgram<'_>, out: &mut Pieces<'_, K>)
     write_head(out);
     write_shown_clusters(shown, out);
     shown.write_all_points(&DotEdges, out);
-    write_legend(out, shown.view.look.legend);
+    write_legend(out, shown.view.look.legend, shown.view.look.changes);
 }
 
 // A point as a node.
@@ -655,7 +681,9 @@ impl PointForm for DotEdges {
 /// - each remark that a report makes on it, in the report's words and order;
 /// - each chosen analysis, `reach: SET`, `live: SET`, `avail: SET`, `busy: SET`, with the set as `TableText` has it, or without the dummy
 ///   definitions, broken where a line would have more than 60 signs; and where that is asked for, the set behind a statement that is no
-///   call, `reach behind: SET`. They stand in the node's tooltip where that is asked for.
+///   call, `reach behind: SET`. In place of the sets stands, where that is asked for, what came and what went against the point before in
+///   the same procedure, `reach came: SET` and `reach went: SET`, and against the set before the statement, `reach came behind: SET`; no
+///   line where it is nothing. They stand in the node's tooltip where that is asked for.
 ///
 /// A point is grey where no valid path leads there. Else it is red where its statement reads a variable that may be unset, and
 /// yellow where it is an assignment that is dead. A doubtful point has a second border, whatever else it is. Its class has the same in words,

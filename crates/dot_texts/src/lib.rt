@@ -1,6 +1,7 @@
 //! A program's flow graph with its facts as a picture for Graphviz, written in pieces to any sink.
 #![tactic(auto)]
 
+mod changes;
 mod dots;
 mod legend;
 mod marks;

@@ -12,7 +12,8 @@ use Rattle.flow_graph.specs.declared.edge.Edge.{Edge}
 use Rattle.flow_graph.specs.declared.edge.Edge.TheVariants.{Step, Call, Ret}
 use Rattle.flow_reports.specs.Reports.{IsKnowledge, Knowledge, remark_text, remarks_at}
 use Rattle.flow_texts.specs.Tables.{bit_text, line_at}
-use Rattle.point_sets.specs.SetLines.{set_lines}
+use Rattle.point_sets.specs.Changes.{came_text, changed_from, set_against}
+use Rattle.point_sets.specs.SetLines.{lines_if_any, set_lines}
 use Rattle.point_sets.specs.Sets.{calls_at, has_behind, set_on, shown_bits, side_text}
 use Rattle.point_sets.specs.declared.side.Side.{Side}
 use Rattle.point_sets.specs.declared.side.Side.TheVariants.{Before, Behind}
@@ -58,6 +59,31 @@ abbrev pub lines_on : Program → Knowledge → View → ℕ → Analysis → Si
 lines_on program known view point analysis side =
     set_lines (analysis_name analysis ++ side_text side) (set_names program known view point analysis side)
 
+-- `ANALYSIS came: SET`, or `ANALYSIS went: SET`, or with ` behind`, in lines; no line where nothing came, or went
+abbrev pub changed_names : Program → View → Analysis → Bool → (ℕ → Bool) → (ℕ → Bool) → List (List ℕ)
+changed_names program view analysis came old new =
+    map (bit_text program analysis) (shown_bits program analysis view.look.hides_entry (changed_from came old new))
+
+abbrev pub changed_lines : Program → View → Analysis → Side → Bool → (ℕ → Bool) → (ℕ → Bool) → List (List ℕ)
+changed_lines program view analysis side came old new =
+    lines_if_any (analysis_name analysis ++ came_text came ++ side_text side) (changed_names program view analysis came old new)
+
+-- both, of what changes from one set to another
+abbrev pub both_changed : Program → View → Analysis → Side → (ℕ → Bool) → (ℕ → Bool) → List (List ℕ)
+both_changed program view analysis side old new =
+    changed_lines program view analysis side true old new ++ changed_lines program view analysis side false old new
+
+-- the change that leads to a side of a statement
+abbrev pub changes_on : Program → Knowledge → View → ℕ → Analysis → Side → List (List ℕ)
+changes_on program known view point analysis side =
+    both_changed program view analysis side (set_against side program (known_facts known analysis) point)
+    (set_on side program analysis (known_facts known analysis) point)
+
+-- the set, or where it is asked for what changes
+abbrev pub told_on : Program → Knowledge → View → ℕ → Analysis → Side → List (List ℕ)
+told_on program known view point analysis side =
+    if view.look.changes then changes_on program known view point analysis side else lines_on program known view point analysis side
+
 -- The sides of a point whose sets are shown: before its statement, and where it is asked for behind it too.
 abbrev pub behind_if : Bool → List Side
 behind_if is = if is then Behind ∷ [] else []
@@ -66,7 +92,7 @@ abbrev pub sides : Program → View → ℕ → List Side
 sides program view point = Before ∷ behind_if (view.look.behind && has_behind program point)
 
 abbrev pub fact_lines : Program → Knowledge → View → ℕ → Analysis → List (List ℕ)
-fact_lines program known view point analysis = flat_map (lines_on program known view point analysis) (sides program view point)
+fact_lines program known view point analysis = flat_map (told_on program known view point analysis) (sides program view point)
 
 -- a line for each fact that is chosen, or several
 abbrev pub facts_in_lines : Program → Knowledge → View → ℕ → List ℕ
@@ -175,12 +201,22 @@ abbrev pub shown_clusters : Program → Knowledge → View → Option ℕ → Li
 shown_clusters program known view (Some procedure) = cluster program known view procedure
 shown_clusters program known view None = all_clusters program known view
 
--- A legend: each mark with its words, one below the other, and each arrow leads to its own.
-abbrev pub legend_nodes : List ℕ
-legend_nodes =
+-- A legend: what a node's lines tell, each mark with its words, one below the other, and each arrow leads to its own.
+abbrev pub legend_facts : Bool → List ℕ
+legend_facts false = codes "ANALYSIS: what holds before it\\lANALYSIS behind: what holds behind it\\l"
+legend_facts true =
+    codes "ANALYSIS came: what holds here and not at the point before\\lANALYSIS went: what holds there and not here\\l"
+    ++ codes "ANALYSIS came behind: what holds behind it and not before it\\lANALYSIS went behind: what holds before it and not behind it\\l"
+
+abbrev pub legend_begin : List ℕ
+legend_begin =
     codes "  subgraph \"cluster_legend\" {\n    id=\"legend\";\n    class=\"legend\";\n    label=\"Legend\";\n"
     ++ codes "    node [class=\"legend\"];\n    edge [class=\"legend\"];\n"
-    ++ codes "    legend0 [label=\"LABEL:\\lLINE: STATEMENT\\lremarks\\lANALYSIS: what holds before it\\lANALYSIS behind: what holds behind it\\l\"];\n"
+    ++ codes "    legend0 [label=\"LABEL:\\lLINE: STATEMENT\\lremarks\\l"
+
+abbrev pub legend_marks : List ℕ
+legend_marks =
+    codes "\"];\n"
     ++ codes "    legend1 [label=\"never reached\", style=filled, fillcolor=grey80];\n"
     ++ codes "    legend2 [label=\"a variable may be used before it is set\", color=red, fontcolor=red];\n"
     ++ codes "    legend3 [label=\"the assignment is dead\", style=filled, fillcolor=khaki];\n"
@@ -189,20 +225,23 @@ legend_nodes =
     ++ codes "    legend6 [label=\"from a call to the point behind it\"];\n"
     ++ codes "    legend7 [label=\"a call or a return, with the line of the call\"];\n"
 
+abbrev pub legend_nodes : Bool → List ℕ
+legend_nodes changes = legend_begin ++ legend_facts changes ++ legend_marks
+
 abbrev pub legend_edges : List ℕ
 legend_edges =
     codes "    legend0 -> legend1 -> legend2 -> legend3 -> legend4 [style=invis];\n    legend4 -> legend5;\n"
     ++ codes "    legend5 -> legend6 [style=dotted, arrowhead=none];\n"
     ++ codes "    legend6 -> legend7 [style=dashed, color=grey60];\n  }\n"
 
-abbrev pub legend : List ℕ
-legend = legend_nodes ++ legend_edges
+abbrev pub legend : Bool → List ℕ
+legend changes = legend_nodes changes ++ legend_edges
 
 -- the picture, with and without the line that ends it
 abbrev pub open_dot : Program → Knowledge → View → List ℕ
 open_dot program known view =
     head ++ shown_clusters program known view view.procedure
-    ++ flat_map (edge_lines program view) (shown_points program view) ++ text_if view.look.legend legend
+    ++ flat_map (edge_lines program view) (shown_points program view) ++ text_if view.look.legend (legend view.look.changes)
 
 abbrev pub dot_of : Program → Knowledge → View → List ℕ
 dot_of program known view = open_dot program known view ++ codes "}\n"

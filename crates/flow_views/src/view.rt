@@ -53,6 +53,8 @@ pub struct Look {
     pub hovers: bool,
     /// Whether a legend tells what its marks mean.
     pub legend: bool,
+    /// Whether what came and what went stands in place of sets.
+    pub changes: bool,
 }
 
 /// What is shown of a program, and how.

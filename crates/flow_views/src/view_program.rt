@@ -1,6 +1,7 @@
 // What both texts are made of.
 
-ghost use Rattle.std.specs.Prelude.{◌≡◌, ℕ, ◌+◌, ◌*◌, ◌-◌, ◌<◌, ◌≤◌, suc, None, Some, false, true, flat_map, length, map, IfOk, IfSome};
+ghost use Rattle.std.specs.Prelude.{◌≡◌, ℕ, ◌+◌, ◌*◌, ◌-◌, ◌<◌, ◌≤◌, suc, None, Some, false, true, flat_map, length, map};
+ghost use Rattle.std.specs.Prelude.{IfOk, IfSome, if◌then◌else◌};
 ghost use Rattle.flow_graph.specs.Edges.{edges_from};
 ghost use Rattle.flow_graph.specs.Points.{end_place, entry_point, kind_at, point_count, points, procedure_at, statement_at};
 ghost use Rattle.flow_team.specs.Tables.{facts_of};
@@ -11,7 +12,9 @@ ghost use Rattle.flow_reports.specs.Reports.{remarks_at};
 ghost use Rattle.flow_reports.specs.Uses.{unset_uses};
 ghost use Rattle.flow_reports.specs.code.Findings.{knowledge_of};
 ghost use Rattle.report_answers.specs.code.Reported.{TellReport};
-ghost use Rattle.point_sets.specs.Sets.{has_behind, set_on};
+ghost use Rattle.point_sets.specs.Changes.{set_against, set_ahead};
+ghost use Rattle.point_sets.specs.Sets.{behind, has_behind, set_on};
+ghost use Rattle.point_sets.specs.code.Changes.{IsChange, old_set, told_by};
 ghost use Rattle.point_sets.specs.code.PointSets.{IsPointSet};
 ghost use Rattle.point_sets.specs.declared.side.Side.TheVariants.{Behind};
 ghost use Rattle.tac_listing.specs.Listings.{statement_text};
@@ -20,20 +23,23 @@ ghost use Rattle.flow_views.specs.code.ViewProgram.{AreShown, AreShownProcedures
 ghost use Rattle.flow_views.specs.code.ViewProgram.{contents};
 ghost use Rattle.flow_views.specs.code.ViewProgram.{known_of, numbers_of};
 ghost use Rattle.text_pieces.specs.Strings.{escaped};
-ghost use Rattle.flow_views.specs.Views.{names_at, points_in, procedure_name as name_of_procedure, shown_points, is_chosen};
-ghost use Rattle.flow_views.specs.Views.{shown_procedures, known_facts, label_name, labels_at, marks_at, outcome, outcome_of};
+ghost use Rattle.flow_views.specs.Views.{names_at, points_in, procedure_name, shown_points, is_chosen};
+ghost use Rattle.flow_views.specs.Views.{shown_procedures, known_facts, label_name, labels_at, marks_at, outcome};
 
 use crate::OutOfMemory;
-use crate::labels::labels_of_place;
 use crate::marks::PointMarks;
 use crate::names::{NameForm, Names};
+use crate::outcomes::outcome_by;
 use crate::point_form::PointForm;
+use crate::point_names::{
+    labels_of, name_of_label, name_of_procedure, scope_of, write_statement_of,
+};
 use crate::view::View;
 use crate::view_tables::{ViewTables, shown_points};
 use flow_graph::{Analysis, Edge, Graph};
 use flow_reports::{Findings, RemarkForm, UnsetUse};
 use flow_team::Table;
-use point_sets::{PointSet, Side};
+use point_sets::{Change, PointSet, Side};
 use report_answers::ReportAnswers;
 use smallvec::SmallVec;
 use std::alloc::Global;
@@ -86,8 +92,8 @@ pub(crate) fn points_of(graph: &Graph<'_>, procedure: u32) -> Numbers
     }
 }
 
-// The edges out of each point.
-fn successors(
+/// The edges out of each point. Fails only where memory runs out.
+pub fn successors(
     alloc: Global,
     graph: &Graph<'_>,
 ) -> Result<Vec<SmallVec<Edge, 2, Global>>, OutOfMemory>
@@ -100,23 +106,14 @@ fn successors(
     Ok(lists)
 }
 
-// What a test says where its jump is taken, or where it is not.
-fn outcome_of(kind: &StmtKind, jumps: bool) -> Option<bool>
-    ensures { result ≡ outcome_of kind.now jumps }
+// The point before one, or the point itself where it is the first of its procedure.
+fn point_ahead(point: u32, is_first: bool) -> u32
+    ensures { result ≡ (if is_first then point else point - 1) }
 {
-    match kind {
-        StmtKind::Copy { .. } => None,
-        StmtKind::Unary { .. } => None,
-        StmtKind::Binary { .. } => None,
-        StmtKind::Goto { .. } => None,
-        StmtKind::If { .. } => Some(jumps),
-        StmtKind::IfFalse { .. } => Some(!jumps),
-        StmtKind::IfCompare { .. } => Some(jumps),
-        StmtKind::Call { .. } => None,
-        StmtKind::Return => None,
-        StmtKind::Read { .. } => None,
-        StmtKind::Print { .. } => None,
-        StmtKind::Skip => None,
+    if is_first {
+        point
+    } else {
+        point.saturating_sub(1)
     }
 }
 
@@ -278,6 +275,7 @@ impl ViewProgram<'_> {
         ensures set { IsPointSet result }
         ensures graph { result.graph.now ≡ self.now.found.graph.now }
         ensures table { result.table.now ≡ table.now }
+        ensures hides { result.hides_entry ≡ self.now.view.look.hides_entry }
         ensures tells { set_on result.side result.graph.now result.table.now.analysis (facts_of result.table.now) result.point
             ≡ set_on side self.now.found.graph.now table.now.analysis (known_facts (known_of self.now) table.now.analysis) point }
     {
@@ -291,19 +289,83 @@ impl ViewProgram<'_> {
         }
     }
 
+    // What changes from the point before one in its procedure to it, in a table that is shown.
+    fn change_ahead<'b>(&'b self, table: &'b Table, point: u32) -> Change<'b>
+        requires shown { AreShown self.now }
+        requires table { IsShownTable self.now table.now }
+        requires point { point < point_count self.now.found.graph.now }
+        requires shows { IsShownPoint self.now point }
+        ensures change { IsChange result }
+        ensures graph { result.new.graph.now ≡ self.now.found.graph.now }
+        ensures table { result.new.table.now ≡ table.now }
+        ensures hides { result.new.hides_entry ≡ self.now.view.look.hides_entry }
+        ensures old { old_set result ≡ set_ahead self.now.found.graph.now (known_facts (known_of self.now) table.now.analysis) point }
+        ensures new { told_by result.new ≡ (known_facts (known_of self.now) table.now.analysis).contains point }
+    {
+        let is_first = self.found.graph.place(point).place == 0;
+        let ahead = point_ahead(point, is_first);
+        Change {
+            old: self.point_set(table, ahead, Side::Before),
+            from_none: is_first,
+            new: self.point_set(table, point, Side::Before),
+        }
+    }
+
+    // What the statement at a point, which is no call, changes in a table that is shown.
+    fn change_behind<'b>(&'b self, table: &'b Table, point: u32) -> Change<'b>
+        requires shown { AreShown self.now }
+        requires table { IsShownTable self.now table.now }
+        requires point { point < point_count self.now.found.graph.now }
+        requires shows { IsShownPoint self.now point }
+        requires behind { has_behind self.now.found.graph.now point ≡ true }
+        ensures change { IsChange result }
+        ensures graph { result.new.graph.now ≡ self.now.found.graph.now }
+        ensures table { result.new.table.now ≡ table.now }
+        ensures hides { result.new.hides_entry ≡ self.now.view.look.hides_entry }
+        ensures old { old_set result ≡ (known_facts (known_of self.now) table.now.analysis).contains point }
+        ensures new { told_by result.new
+            ≡ behind self.now.found.graph.now table.now.analysis (known_facts (known_of self.now) table.now.analysis) point }
+    {
+        Change {
+            old: self.point_set(table, point, Side::Before),
+            from_none: false,
+            new: self.point_set(table, point, Side::Behind),
+        }
+    }
+
+    /// What changes in a table that is shown up to the set on a side of the statement at a point: from the point before in its procedure to the set
+    /// before it, and from that to the set behind it.
+    ///
+    /// The conditions: it is one program that is shown, the table is one of its tables, the point is shown, and a set of its own stands on that
+    /// side.
+    pub fn change<'b>(&'b self, table: &'b Table, point: u32, side: Side) -> Change<'b>
+        requires shown { AreShown self.now }
+        requires table { IsShownTable self.now table.now }
+        requires point { point < point_count self.now.found.graph.now }
+        requires shows { IsShownPoint self.now point }
+        requires side { side ≡ Behind → has_behind self.now.found.graph.now point ≡ true }
+        ensures change { IsChange result }
+        ensures graph { result.new.graph.now ≡ self.now.found.graph.now }
+        ensures table { result.new.table.now ≡ table.now }
+        ensures hides { result.new.hides_entry ≡ self.now.view.look.hides_entry }
+        ensures old { old_set result
+            ≡ set_against side self.now.found.graph.now (known_facts (known_of self.now) table.now.analysis) point }
+        ensures new { told_by result.new
+            ≡ set_on side self.now.found.graph.now table.now.analysis (known_facts (known_of self.now) table.now.analysis) point }
+    {
+        match side {
+            Side::Before => self.change_ahead(table, point),
+            Side::Behind => self.change_behind(table, point),
+        }
+    }
+
     /// The outcome of a test by which control goes from a point to another.
     pub fn outcome(&self, source: u32, target: u32) -> Option<bool>
         requires shown { AreShown self.now }
         requires source { source < point_count self.now.found.graph.now }
         ensures { result ≡ outcome self.now.found.graph.now source target }
     {
-        if self.edges(source).len() != 2 {
-            return None;
-        }
-        match self.found.graph.stmt(source) {
-            Some(stmt) => outcome_of(&stmt.kind, target != source + 1),
-            None => None,
-        }
+        outcome_by(self.found.graph, self.edges(source), source, target)
     }
 
     /// The labels of a point.
@@ -311,9 +373,7 @@ impl ViewProgram<'_> {
         requires { point < point_count self.now.found.graph.now }
         ensures { result.now ≡ labels_at self.now.found.graph.now point }
     {
-        let place = self.found.graph.place(point);
-        let procs = self.found.graph.program().procs();
-        labels_of_place(procs[place.procedure as usize].labels(), place.place)
+        labels_of(self.found.graph, point)
     }
 
     /// The name of a label of a point.
@@ -321,11 +381,7 @@ impl ViewProgram<'_> {
         requires { point < point_count self.now.found.graph.now }
         ensures { result.now ≡ label_name self.now.found.graph.now point label }
     {
-        let place = self.found.graph.place(point);
-        let procs = self.found.graph.program().procs();
-        procs[place.procedure as usize]
-            .label_names()
-            .name_or_empty(label.name)
+        name_of_label(self.found.graph, point, label)
     }
 
     /// Whether a point is doubtful.
@@ -373,12 +429,9 @@ impl ViewProgram<'_> {
     /// The name of a procedure.
     pub fn procedure_name(&self, procedure: u32) -> &[u8]
         requires { procedure < length self.now.found.graph.now.procedures }
-        ensures { result.now ≡ name_of_procedure self.now.found.graph.now procedure }
+        ensures { result.now ≡ procedure_name self.now.found.graph.now procedure }
     {
-        let program = self.found.graph.program();
-        // Its contract tells that each procedure has a name.
-        let _ = program.procs();
-        program.procedure(procedure)
+        name_of_procedure(self.found.graph, procedure)
     }
 
     /// The procedure of a point.
@@ -388,10 +441,7 @@ impl ViewProgram<'_> {
         ensures procedure { result.procedure ≡ procedure_at self.now.found.graph.now point }
         ensures there { result.procedure < length self.now.found.graph.now.procedures }
     {
-        Scope {
-            program: self.found.graph.program(),
-            procedure: self.found.graph.place(point).procedure,
-        }
+        scope_of(self.found.graph, point)
     }
 
     /// Writes the statement at a point as it stands between quotes.
@@ -402,7 +452,7 @@ impl ViewProgram<'_> {
         requires statement { statement_at self.now.found.graph.now point ≡ Some stmt.now }
         ensures { Writes K.Sink out.old out.new (escaped (statement_text (names_at self.now.found.graph.now point) stmt.now.kind)) }
     {
-        self.scope(point).write_statement(out, &stmt.kind);
+        write_statement_of(self.found.graph, out, point, stmt);
     }
 
     /// Writes each point of a procedure that is shown.

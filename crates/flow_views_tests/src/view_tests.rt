@@ -90,11 +90,22 @@ fn text_of<R: Threads + Sync + AllocGlobal>(
     }
 }
 
+// Whether a text has another one in it.
+fn contains(text: &[u8], part: &[u8]) -> bool {
+    for first in 0..text.len() {
+        if text[first..].starts_with(part) {
+            return true;
+        }
+    }
+    false
+}
+
 const PLAIN: Look = Look {
     hides_entry: false,
     behind: false,
     hovers: false,
     legend: false,
+    changes: false,
 };
 
 const NO_FACTS: View = View {
@@ -152,6 +163,7 @@ fn picture_of_both_sides(rt: HostRuntime) -> Result<(), Fail> {
             behind: true,
             hovers: false,
             legend: false,
+            changes: false,
         },
     };
     let got = text_of(&rt, BOTH_SIDES, Format::Dot, view)?;
@@ -177,6 +189,91 @@ fn picture_of_both_sides(rt: HostRuntime) -> Result<(), Fail> {
     Ok(())
 }
 
+// Figure 9.13 of Aho, Lam, Sethi, Ullman, Compilers, 2nd edition, with names of our own.
+const TEXTBOOK: &str =
+    "proc main\nleft = 0\nright = 9\nkey = 1\nagain:\nleft = left + 1\nright = right - 1\nif left < right goto keep\n\
+    key = 2\nkeep:\nleft = 3\nif key < right goto again\nend\n";
+
+// What comes and what goes there, from point to point and through each statement, without the values at the beginning.
+#[test]
+fn picture_of_changes(rt: HostRuntime) -> Result<(), Fail> {
+    let view = View {
+        facts: Chosen {
+            reach: true,
+            live: false,
+            avail: false,
+            busy: false,
+        },
+        procedure: None,
+        look: Look {
+            hides_entry: true,
+            behind: true,
+            hovers: false,
+            legend: false,
+            changes: true,
+        },
+    };
+    let got = text_of(&rt, TEXTBOOK, Format::Dot, view)?;
+    let wanted: &[u8] = b"digraph \"tacflow\" {\n  graph [fontname=\"monospace\", labeljust=l];\n  \
+        node [shape=box, fontname=\"monospace\", fontsize=11];\n  \
+        edge [class=\"step\", fontname=\"monospace\", fontsize=10];\n  subgraph \"cluster_0\" {\n    \
+        id=\"procedure0\";\n    class=\"procedure\";\n    label=\"main\";\n    \
+        0 [id=\"point0\", class=\"point\", label=\"2: left = 0\\lreach came behind: left@2\\l\"];\n    \
+        1 [id=\"point1\", class=\"point\", label=\"3: right = 9\\lreach came: left@2\\lreach came behind: right@3\\l\"];\n    \
+        2 [id=\"point2\", class=\"point\", label=\"4: key = 1\\lreach came: right@3\\lreach came behind: key@4\\l\"];\n    \
+        3 [id=\"point3\", class=\"point\", label=\"again:\\l6: left = left + 1\\lreach came: key@4, right@7, key@9, left@11\\l\
+        reach came behind: left@6\\lreach went behind: left@2, left@11\\l\"];\n    \
+        4 [id=\"point4\", class=\"point\", label=\"7: right = right - 1\\lreach came: left@6\\lreach went: left@2, left@11\\l\
+        reach went behind: right@3\\l\"];\n    \
+        5 [id=\"point5\", class=\"point\", label=\"8: if left < right goto keep\\lreach went: right@3\\l\"];\n    \
+        6 [id=\"point6\", class=\"point\", label=\"9: key = 2\\lreach went behind: key@4\\l\"];\n    \
+        7 [id=\"point7\", class=\"point\", label=\"keep:\\l11: left = 3\\lreach came behind: left@11\\lreach went behind: left@6\\l\"];\n    \
+        8 [id=\"point8\", class=\"point\", label=\"12: if key < right goto again\\lreach came: left@11\\lreach went: left@6\\l\"];\n    \
+        9 [id=\"point9\", class=\"point\", label=\"end of main\\l\"];\n  }\n  \
+        0 -> 1;\n  1 -> 2;\n  2 -> 3;\n  3 -> 4;\n  4 -> 5;\n  5 -> 6 [label=\"F\"];\n  5 -> 7 [label=\"T\"];\n  \
+        6 -> 7;\n  7 -> 8;\n  8 -> 9 [label=\"F\"];\n  8 -> 3 [label=\"T\"];\n}\n";
+    assert_eq!(rt; got.as_slice(), wanted);
+    Ok(())
+}
+
+// What comes at a procedure's first point is all that holds there, in lines; what goes; and a legend of changes.
+#[test]
+fn picture_of_long_changes(rt: HostRuntime) -> Result<(), Fail> {
+    let view = View {
+        facts: Chosen {
+            reach: false,
+            live: true,
+            avail: false,
+            busy: false,
+        },
+        procedure: Some(0),
+        look: Look {
+            hides_entry: false,
+            behind: false,
+            hovers: true,
+            legend: true,
+            changes: true,
+        },
+    };
+    let got = text_of(&rt, LONG_SETS, Format::Dot, view)?;
+    let nodes: &[u8] =
+        b"    0 [id=\"point0\", class=\"point\", label=\"2: read aaaaaaaaaaaaaaaaaa\\l\", \
+        tooltip=\"live came: bbbbbbbbbbbbbbbbbb, ccccccccccccc,\\l  dddddddddddddddddddddddddddddddddddddddddddddddddddddddddddddddd,\\l  e\\l\"];\n    \
+        1 [id=\"point1\", class=\"point\", label=\"3: call f\\l\", tooltip=\"live came: aaaaaaaaaaaaaaaaaa\\l\"];\n    \
+        2 [id=\"point2\", class=\"point\", label=\"end of main\\l\", tooltip=\"live went: aaaaaaaaaaaaaaaaaa, bbbbbbbbbbbbbbbbbb,\\l  \
+        ccccccccccccc,\\l  dddddddddddddddddddddddddddddddddddddddddddddddddddddddddddddddd,\\l  e\\l\"];\n  }\n  \
+        0 -> 1;\n  1 -> 2 [class=\"passed\", style=dotted, arrowhead=none];\n  subgraph \"cluster_legend\" {\n    \
+        id=\"legend\";\n    class=\"legend\";\n    label=\"Legend\";\n    node [class=\"legend\"];\n    edge [class=\"legend\"];\n    \
+        legend0 [label=\"LABEL:\\lLINE: STATEMENT\\lremarks\\lANALYSIS came: what holds here and not at the point before\\l\
+        ANALYSIS went: what holds there and not here\\lANALYSIS came behind: what holds behind it and not before it\\l\
+        ANALYSIS went behind: what holds before it and not behind it\\l\"];\n    legend1 [label=\"never reached\",";
+    let legend: &[u8] =
+        b"    legend5 -> legend6 [style=dotted, arrowhead=none];\n    legend6 -> legend7 [style=dashed, color=grey60];\n  }\n}\n";
+    assert!(rt; contains(got.as_slice(), nodes));
+    assert!(rt; got.ends_with(legend));
+    Ok(())
+}
+
 // A name that ends where a line does, one that is longer than a line, and one more. The facts stand in tooltips, and a legend behind them.
 const LONG_SETS: &str =
     "proc main\nread aaaaaaaaaaaaaaaaaa\ncall f\nend\nproc f\nprint aaaaaaaaaaaaaaaaaa\nprint bbbbbbbbbbbbbbbbbb\nprint ccccccccccccc\n\
@@ -197,6 +294,7 @@ fn picture_of_long_sets(rt: HostRuntime) -> Result<(), Fail> {
             behind: false,
             hovers: true,
             legend: true,
+            changes: false,
         },
     };
     let got = text_of(&rt, LONG_SETS, Format::Dot, view)?;

@@ -1,3 +1,4 @@
 pub mod Laid
 pub mod Passing
 pub mod SetTexts
+pub mod Some

@@ -1,3 +1,4 @@
+pub mod Changes
 pub mod SetLines
 pub mod Sets
 pub mod code

@@ -26,3 +26,8 @@ lines_from line (name ∷ names) =
 abbrev pub set_lines : List ℕ → List (List ℕ) → List (List ℕ)
 set_lines head [] = (head ++ codes "-") ∷ []
 set_lines head (name ∷ names) = lines_from (head ++ name) names
+
+-- the same, with no line where it has no names
+abbrev pub lines_if_any : List ℕ → List (List ℕ) → List (List ℕ)
+lines_if_any head [] = []
+lines_if_any head (name ∷ names) = lines_from (head ++ name) names

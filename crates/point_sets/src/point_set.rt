@@ -79,13 +79,22 @@ impl PointSet<'_> {
         }
     }
 
+    // Whether a bit is shown where it holds.
+    pub(crate) fn is_bit_shown(&self, bit: u32) -> bool
+        requires bits { self.now.table.now.bits ≡ bits self.now.graph.now self.now.table.now.analysis }
+        requires bit { bit < self.now.table.now.bits }
+        ensures { result ≡ is_bit_shown self.now.graph.now self.now.table.now.analysis self.now.hides_entry bit }
+    {
+        !(self.hides_entry && self.is_entry(bit))
+    }
+
     // Whether a bit is shown.
     fn shows(&self, bit: u32) -> bool
         requires set { IsPointSet self.now }
         requires bit { bit < self.now.table.now.bits }
         ensures { result ≡ shows self.now bit }
     {
-        self.contains(bit) && !(self.hides_entry && self.is_entry(bit))
+        self.contains(bit) && self.is_bit_shown(bit)
     }
 
     // Whether none of a word's bits is shown: it tells of sets before a statement alone.

@@ -33,9 +33,11 @@ use Rattle.flow_views.specs.Dots.{arrow, passed_call}
 use Rattle.flow_views.specs.Json.{array, boolean, span_fields}
 use Rattle.flow_views.specs.ViewTables.{AreViewTables}
 use Rattle.flow_views.specs.Views.{end_shown, first_shown, analysis_if, labels_in}
-use Rattle.flow_views.specs.code.Names.{AreNames, numbered}
+use Rattle.flow_views.specs.code.Names.{AreNames, AreNamesOf, numbered}
 use Rattle.flow_views.specs.code.ViewProgram.{AreShown, IsShownProcedure, IsEndIn, contents}
-use Rattle.flow_views.specs.declared.names.NameForm.TheVariants.{Quoted}
+use Rattle.flow_views.specs.declared.names.NameForm.{NameForm}
+use Rattle.flow_views.specs.declared.names.NameForm.TheVariants.{Escaped, Quoted}
+use Rattle.text_pieces.specs.code.Blocks.{SeparatedTexts}
 use Rattle.flow_views.specs.declared.view_program.ViewProgram.{ViewProgram}
 
 -- the edges of a point, as they are read from the table
@@ -213,3 +215,9 @@ passed_is program point calls =
     let next : point + 1 ≡ suc point = omega arith in
     ap (λ n. arrow point n ++ codes " [class=\"passed\", style=dotted, arrowhead=none];\n") next
     ∙ sym (ap (λ (b : Bool). if b then arrow point (suc point) ++ codes " [class=\"passed\", style=dotted, arrowhead=none];\n" else []) calls)
+
+-- the names of a table's analysis, between quotes
+pub escaped_names : (form : NameForm) (program : Program) (asked analysis : Analysis) (names : SeparatedTexts) → form ≡ Escaped → asked ≡ analysis
+    → AreNamesOf form program asked names → AreNamesOf Escaped program analysis names
+escaped_names form program asked analysis names is same are =
+    subst (λ (a : Analysis). AreNamesOf Escaped program a names) same (subst (λ (f : NameForm). AreNamesOf f program asked names) is are)

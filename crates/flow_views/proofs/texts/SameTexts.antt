@@ -1,6 +1,6 @@
 -- The texts of what the code's tables and answers tell are those of all that is known.
 use Rattle.std.proofs.Common.{◌≡◌, ◌∙◌, ℕ, zero, suc, ◌+◌, ◌-◌, ◌<◌, ◌≤◌, Bool, true, false, List, [], ◌∷◌, ◌++◌, length, map, flat_map}
-use Rattle.std.proofs.Common.{◌&&◌, not, Contains, Option, Some, None, IfSome, cond, codes, decimal, refl, sym, ap, subst, arith}
+use Rattle.std.proofs.Common.{◌&&◌, not, Contains, Option, Some, None, IfSome, cond, if◌then◌else◌, codes, decimal, refl, sym, ap, subst, arith}
 use Rattle.std.specs.List.{filter, range_with_len}
 use Rattle.std.proofs.lemmas.Grind.{flat_map-append}
 use Rattle.flow_graph.specs.Analyses.{main_procedure}
@@ -23,8 +23,8 @@ use Rattle.flow_reports.proofs.knowledge.KnownReports.{Agree, same_dead, same_re
 use Rattle.flow_graph.proofs.graphs.GraphLaws.{graphs_are_well_formed}
 use Rattle.tac_program.specs.Programs.{Program}
 use Rattle.tac_program.specs.Sound.{IsSound}
-use Rattle.flow_views.specs.Dots.{all_clusters, behind_if, cluster, dot_of, edge_lines, fact_lines, facts_in_lines, head, label_line, label_text, label_title}
-use Rattle.flow_views.specs.Dots.{legend, lines_on, look_of, node, node_names, open_dot, shown_clusters, sides, text_if, title}
+use Rattle.flow_views.specs.Dots.{all_clusters, behind_if, both_changed, cluster, dot_of, edge_lines, fact_lines, facts_in_lines, head, label_line, label_text, label_title}
+use Rattle.flow_views.specs.Dots.{legend, look_of, node, node_names, open_dot, shown_clusters, sides, text_if, title, told_on}
 use Rattle.flow_views.specs.Json.{array, boolean, end_line, facts_field, json_of, json_with, point_edge, point_line, program_line, remark_object}
 use Rattle.flow_views.specs.Json.{span_fields, statement_field}
 use Rattle.text_pieces.specs.Strings.{quoted}
@@ -36,6 +36,7 @@ use Rattle.flow_views.specs.code.ViewProgram.{IsShownProcedure, TellSame}
 use Rattle.flow_views.specs.declared.view.Chosen.{Chosen}
 use Rattle.flow_views.specs.declared.view.Look.{Look}
 use Rattle.flow_views.specs.declared.view.View.{View}
+use Rattle.flow_views.proofs.facts.Ahead.{same_against}
 use Rattle.flow_views.proofs.facts.Behind.{next_shown, same_set_on}
 use Rattle.flow_views.proofs.facts.Tables.{ends_below, shown_within}
 
@@ -185,13 +186,19 @@ module _ (program : Program) (sound : IsSound program) (one other : Knowledge) (
 
     same_lines_of : (analysis : Analysis) → is_chosen chosen analysis ≡ true
         → fact_lines program one view point analysis ≡ fact_lines program other view point analysis
-    same_lines_of analysis is = same_among (lines_on program one view point analysis) (lines_on program other view point analysis)
+    same_lines_of analysis is = same_among (told_on program one view point analysis) (told_on program other view point analysis)
         (sides program view point)
-        (λ side among. ap (λ (set : ℕ → Bool). lines analysis side set) (same_set analysis is side among))
+        (λ side among.
+        let before = same_against program procedure there (known_facts one analysis) (known_facts other analysis) (told analysis is) point below at
+        side in
+        let behind = same_set analysis is side among in
+        λ i. lines analysis side (before i) (behind i))
       where
-        lines : Analysis → Side → (ℕ → Bool) → List (List ℕ)
-        lines analysis side set =
-            set_lines (analysis_name analysis ++ side_text side) (map (bit_text program analysis) (shown_bits program analysis look.hides_entry set))
+        lines : Analysis → Side → (ℕ → Bool) → (ℕ → Bool) → List (List ℕ)
+        lines analysis side old set =
+            if look.changes then both_changed program view analysis side old set
+            else set_lines (analysis_name analysis ++ side_text side)
+            (map (bit_text program analysis) (shown_bits program analysis look.hides_entry set))
 
     same_facts : facts_in_lines program one view point ≡ facts_in_lines program other view point
     same_facts =
@@ -251,7 +258,7 @@ module _ (program : Program) (sound : IsSound program) (one other : Knowledge) (
   -- the picture, without its last line and with it
   pub same_open : open_dot program one view ≡ open_dot program other view
   same_open =
-      ap (λ clusters. head ++ clusters ++ flat_map (edge_lines program view) (shown_points program view) ++ text_if look.legend legend)
+      ap (λ clusters. head ++ clusters ++ flat_map (edge_lines program view) (shown_points program view) ++ text_if look.legend (legend look.changes))
       (same_clusters procedure refl)
 
   pub same_dot : dot_of program one view ≡ dot_of program other view

@@ -1,15 +1,13 @@
 -- Names that are written behind a line, one after the other
-use Rattle.std.proofs.Common.{◌≡◌, ℕ, zero, suc, ◌+◌, ◌<◌, true, false, List, [], ◌∷◌, ◌++◌, map, refl, sym, ap, subst, ◌∙◌, arith}
+use Rattle.std.proofs.Common.{◌≡◌, ℕ, zero, suc, ◌+◌, ◌<◌, Bool, true, false, List, [], ◌∷◌, ◌++◌, map, refl, sym, ap, subst, ◌∙◌, arith}
 use Rattle.std.proofs.Common.{append_assoc, if◌then◌else◌, true≢false}
 use Rattle.std.specs.List.{filter, range_with_len}
 use Rattle.std.proofs.lemmas.List.{map-append}
 use Rattle.std.proofs.lemmas.List.Elements.{filter-append}
 use Rattle.flow_texts.proofs.sets.RangeLines.{range_split}
 use Rattle.point_sets.specs.SetLines.{columns}
-use Rattle.point_sets.specs.code.Lines.{Lays, line_behind, name_on, names_among, names_on, with_name}
-use Rattle.point_sets.specs.code.PointSets.{shows}
+use Rattle.point_sets.specs.code.Lines.{Lays, line_behind, name_on, names_on, names_that, with_name}
 use Rattle.point_sets.specs.declared.lines.Line.{Line}
-use Rattle.point_sets.specs.declared.point_set.PointSet.{PointSet}
 use Rattle.text_pieces.specs.Pieces.{Outlet}
 use Rattle.text_pieces.specs.code.Lists.{text_at}
 use Rattle.text_pieces.proofs.sinks.Taking.{takes_as, takes_nothing, takes_then}
@@ -38,37 +36,37 @@ lays-more xs ys line mid last a b d one two = record {
   is_last = two.is_last ∙ ap (λ m. line_behind m ys) one.is_last ∙ line_behind-append line xs ys;
 }
 
--- ---- the names of bits
+-- ---- the names of numbers that pass a test
 
-among-split : (set : PointSet) (texts : List (List ℕ)) (first m n : ℕ)
-    → names_among set texts first m ++ names_among set texts (first + m) n ≡ names_among set texts first (m + n)
-among-split set texts first m n =
-    sym (ap (λ r. map (text_at texts) (filter (shows set) r)) (range_split first m n)
-    ∙ ap (map (text_at texts)) (filter-append (shows set) (range_with_len first m) (range_with_len (first + m) n))
-    ∙ map-append (text_at texts) (filter (shows set) (range_with_len first m)) (filter (shows set) (range_with_len (first + m) n)))
+among-split : (test : ℕ → Bool) (texts : List (List ℕ)) (first m n : ℕ)
+    → names_that test texts first m ++ names_that test texts (first + m) n ≡ names_that test texts first (m + n)
+among-split test texts first m n =
+    sym (ap (λ r. map (text_at texts) (filter test r)) (range_split first m n)
+    ∙ ap (map (text_at texts)) (filter-append test (range_with_len first m) (range_with_len (first + m) n))
+    ∙ map-append (text_at texts) (filter test (range_with_len first m)) (filter test (range_with_len (first + m) n)))
 
 -- more of them
-pub lays-further : (set : PointSet) (texts : List (List ℕ)) (first m n : ℕ) (line mid last : Line) (a b d : Outlet)
-    → Lays (names_among set texts first m) line a b mid → Lays (names_among set texts (first + m) n) mid b d last
-    → Lays (names_among set texts first (m + n)) line a d last
-lays-further set texts first m n line mid last a b d one two =
-    subst (λ names. Lays names line a d last) (among-split set texts first m n)
-    (lays-more (names_among set texts first m) (names_among set texts (first + m) n) line mid last a b d one two)
+pub lays-further : (test : ℕ → Bool) (texts : List (List ℕ)) (first m n : ℕ) (line mid last : Line) (a b d : Outlet)
+    → Lays (names_that test texts first m) line a b mid → Lays (names_that test texts (first + m) n) mid b d last
+    → Lays (names_that test texts first (m + n)) line a d last
+lays-further test texts first m n line mid last a b d one two =
+    subst (λ names. Lays names line a d last) (among-split test texts first m n)
+    (lays-more (names_that test texts first m) (names_that test texts (first + m) n) line mid last a b d one two)
 
--- none of them is shown
-none_shown : (set : PointSet) (texts : List (List ℕ)) (first count : ℕ) → ((k : ℕ) → k < count → shows set (first + k) ≡ false)
-    → names_among set texts first count ≡ []
-none_shown set texts first zero none = refl
-none_shown set texts first (suc count) none =
-    let here : shows set first ≡ false = subst (λ n. shows set n ≡ false) (omega arith) (none 0 (omega arith)) in
-    let rest : List ℕ = filter (shows set) (range_with_len (first + 1) count) in
+-- none of them passes
+none_passes : (test : ℕ → Bool) (texts : List (List ℕ)) (first count : ℕ) → ((k : ℕ) → k < count → test (first + k) ≡ false)
+    → names_that test texts first count ≡ []
+none_passes test texts first zero none = refl
+none_passes test texts first (suc count) none =
+    let here : test first ≡ false = subst (λ n. test n ≡ false) (omega arith) (none 0 (omega arith)) in
+    let rest : List ℕ = filter test (range_with_len (first + 1) count) in
     ap (λ b. map (text_at texts) (if b then first ∷ rest else rest)) here
-    ∙ none_shown set texts (first + 1) count (λ k below. subst (λ n. shows set n ≡ false) (omega arith) (none (suc k) (omega (arith, below))))
+    ∙ none_passes test texts (first + 1) count (λ k below. subst (λ n. test n ≡ false) (omega arith) (none (suc k) (omega (arith, below))))
 
-pub lays-no_names : (set : PointSet) (texts : List (List ℕ)) (first count : ℕ) (line : Line) (at : Outlet)
-    → ((k : ℕ) → k < count → shows set (first + k) ≡ false) → Lays (names_among set texts first count) line at at line
-lays-no_names set texts first count line at none =
-    subst (λ names. Lays names line at at line) (sym (none_shown set texts first count none)) (lays-none line at)
+pub lays-no_names : (test : ℕ → Bool) (texts : List (List ℕ)) (first count : ℕ) (line : Line) (at : Outlet)
+    → ((k : ℕ) → k < count → test (first + k) ≡ false) → Lays (names_that test texts first count) line at at line
+lays-no_names test texts first count line at none =
+    subst (λ names. Lays names line at at line) (sym (none_passes test texts first count none)) (lays-none line at)
 
 -- a line with names is none on which the first one is still to come
 behind_has : (line : Line) (names : List (List ℕ)) → line.others ≡ true → (line_behind line names).others ≡ true

@@ -4,8 +4,8 @@ use Rattle.std.proofs.Common.{append_assoc, append-nil, if◌then◌else◌}
 use Rattle.std.proofs.lemmas.List.{length-append}
 use Rattle.text_pieces.proofs.sinks.Escapes.{escaped-append}
 use Rattle.text_pieces.specs.Strings.{escaped}
-use Rattle.point_sets.specs.SetLines.{fits, lines_from, set_lines, width}
-use Rattle.point_sets.specs.code.Lines.{ended, line_behind, names_on, set_from, with_name}
+use Rattle.point_sets.specs.SetLines.{fits, lines_from, lines_if_any, set_lines, width}
+use Rattle.point_sets.specs.code.Lines.{blank_line, ended, line_behind, names_on, set_from, with_name}
 use Rattle.point_sets.specs.declared.lines.Line.{Line}
 
 -- a line of a label
@@ -89,6 +89,18 @@ lines_written line (name ∷ names) =
     by_test true is next = by_fit line name names true is (on_it line name names (next (line ++ codes ", " ++ name)))
     by_test false is next = by_fit line name names false is (behind_it line name names (next (codes "  " ++ name)))
 
+-- a set that has names, in lines behind a head
+pub names_written : (head name : List ℕ) (names : List (List ℕ))
+    → escaped head ++ names_on (blank_line (width head)) (map escaped (name ∷ names)) ++ codes "\\l"
+    ≡ flat_map line_text (lines_if_any head (name ∷ names))
+names_written head name names =
+    let line : Line = with_names (width head + length (escaped name)) in
+    ap (λ t. t ++ codes "\\l") (sym (append_assoc (escaped head) (escaped name) (names_on line (map escaped names))))
+    ∙ ap (λ t. (t ++ names_on line (map escaped names)) ++ codes "\\l") (sym (escaped-append head name))
+    ∙ ap (λ n. (escaped (head ++ name) ++ names_on (with_names n) (map escaped names)) ++ codes "\\l")
+    (sym (ap length (escaped-append head name) ∙ length-append (escaped head) (escaped name)))
+    ∙ lines_written (head ++ name) names
+
 -- a set in lines, behind a head
 pub set_written : (head : List ℕ) (names : List (List ℕ))
     → escaped head ++ set_from (width head) (map escaped names) ++ codes "\\l" ≡ flat_map line_text (set_lines head names)
@@ -96,11 +108,5 @@ set_written head [] = sym (append-nil (line_text (head ++ codes "-")) ∙ ap (λ
 set_written head (name ∷ names) =
     let line : Line = with_names (width head + length (escaped name)) in
     ap (λ t. escaped head ++ ((escaped name ++ names_on line (map escaped names)) ++ t) ++ codes "\\l") (others_end line (map escaped names) refl)
-    ∙ regroup_head (escaped head) (escaped name) (names_on line (map escaped names))
-    ∙ ap (λ t. t ++ names_on line (map escaped names) ++ codes "\\l") (sym (escaped-append head name))
-    ∙ ap (λ n. escaped (head ++ name) ++ names_on (with_names n) (map escaped names) ++ codes "\\l")
-    (sym (ap length (escaped-append head name) ∙ length-append (escaped head) (escaped name)))
-    ∙ lines_written (head ++ name) names
-  where
-    regroup_head : (a n r : List ℕ) → a ++ ((n ++ r) ++ []) ++ codes "\\l" ≡ (a ++ n) ++ r ++ codes "\\l"
-    regroup_head a n r = ap (λ t. a ++ t ++ codes "\\l") (append-nil (n ++ r)) ∙ ap (λ t. t ++ codes "\\l") (sym (append_assoc a n r))
+    ∙ ap (λ t. escaped head ++ t ++ codes "\\l") (append-nil (escaped name ++ names_on line (map escaped names)))
+    ∙ names_written head name names

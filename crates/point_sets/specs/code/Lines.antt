@@ -1,5 +1,5 @@
 -- How the code writes a set in lines, name by name: names stand as they do between quotes.
-use Rattle.std.specs.Prelude.{◌≡◌, ℕ, ◌+◌, true, false, List, [], ◌∷◌, ◌++◌, length, map, filter, if◌then◌else◌, codes}
+use Rattle.std.specs.Prelude.{◌≡◌, ℕ, ◌+◌, Bool, true, false, List, [], ◌∷◌, ◌++◌, length, map, filter, if◌then◌else◌, codes}
 use Rattle.std.specs.List.{range_with_len}
 use Rattle.point_sets.specs.SetLines.{fits}
 use Rattle.point_sets.specs.code.PointSets.{shows}
@@ -36,9 +36,17 @@ pub record Lays (names : List (List ℕ)) (line : Line) (old new : Outlet) (last
   pub taken : Takes old new (names_on line names)
   pub is_last : last ≡ line_behind line names
 
--- the texts of those bits that are shown, among so many from the first on
+-- the texts of those numbers that pass a test, among so many from the first on
+abbrev pub names_that : (ℕ → Bool) → List (List ℕ) → ℕ → ℕ → List (List ℕ)
+names_that test texts first count = map (text_at texts) (filter test (range_with_len first count))
+
+-- the texts of those bits that are shown
 abbrev pub names_among : PointSet → List (List ℕ) → ℕ → ℕ → List (List ℕ)
-names_among set texts first count = map (text_at texts) (filter (shows set) (range_with_len first count))
+names_among set = names_that (shows set)
+
+-- the line on which the first name is still to come
+abbrev pub blank_line : ℕ → Line
+blank_line column = record { column = column; others = false }
 
 -- a line with names, or with `-` where there are none
 abbrev pub ended : Line → List ℕ
@@ -47,4 +55,4 @@ ended line = if line.others then [] else codes "-"
 -- what is written of a set behind the columns of its first line
 abbrev pub set_from : ℕ → List (List ℕ) → List ℕ
 set_from column names =
-    names_on (record { column = column; others = false }) names ++ ended (line_behind (record { column = column; others = false }) names)
+    names_on (blank_line column) names ++ ended (line_behind (blank_line column) names)

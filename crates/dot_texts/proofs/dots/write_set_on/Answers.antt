@@ -1,4 +1,4 @@
-use Rattle.std.proofs.Common.{◌≡◌, ℕ, Bool, ◌&&◌, filter, map, sym, ap, subst, ◌∙◌, arith}
+use Rattle.std.proofs.Common.{◌≡◌, ℕ, Bool, ◌&&◌, filter, map, sym, ap, ◌∙◌, arith}
 use Rattle.std.proofs.lemmas.Simd.{map-map}
 use Rattle.std.specs.List.{range_with_len}
 use Rattle.flow_graph.specs.Universes.{bits}
@@ -14,19 +14,13 @@ use Rattle.flow_team.specs.Tables.{Facts, TableFacts, facts_of}
 use Rattle.point_sets.specs.Sets.{is_bit_shown, set_on, shown_bits}
 use Rattle.point_sets.specs.code.Lines.{set_from}
 use Rattle.point_sets.specs.declared.side.Side.{Side}
+use Rattle.flow_views.proofs.facts.Tables.{escaped_names}
 use Rattle.flow_views.specs.code.Names.{AreNamesOf}
 use Rattle.flow_views.specs.code.ViewProgram.{known_of}
-use Rattle.flow_views.specs.declared.names.NameForm.{NameForm}
 use Rattle.flow_views.specs.declared.names.NameForm.TheVariants.{Escaped}
 use Rattle.flow_views.specs.Views.{known_facts}
 use Rattle.flow_views.proofs.facts.Sides.{next_there, same_set}
 use Rattle.dot_texts.proofs.dots.write_set_on.Goals as goal
-
--- the names of the table's analysis
-named : (form : NameForm) (program : Program) (asked analysis : Analysis) (names : SeparatedTexts) → form ≡ Escaped → asked ≡ analysis
-    → AreNamesOf form program asked names → AreNamesOf Escaped program analysis names
-named form program asked analysis names is same are =
-    subst (λ (a : Analysis). AreNamesOf Escaped program a names) same (subst (λ (f : NameForm). AreNamesOf f program asked names) is are)
 
 pub write_point_set-requires-clause-set : goal.write_point_set-requires-clause-set
 write_point_set-requires-clause-set g c = record {
@@ -40,7 +34,7 @@ write_point_set-requires-clause-set g c = record {
 
 pub write_point_set-requires-clause-texts : goal.write_point_set-requires-clause-texts
 write_point_set-requires-clause-texts g c =
-    let held = named _ c.args.shown.now.found.graph.now _ c.args.table.now.analysis c.names.result.now c.requires.form c.analysis.ensures c.names.ensures in
+    let held = escaped_names _ c.args.shown.now.found.graph.now _ c.args.table.now.analysis c.names.result.now c.requires.form c.analysis.ensures c.names.ensures in
     omega (arith, held.texts.same_count, c.requires.table.bits)
 
 pub returns : goal.returns
@@ -54,7 +48,7 @@ returns g c =
     let facts : Facts = known_facts (known_of c.args.shown.now) analysis in
     let names : SeparatedTexts = c.names.result.now in
     let held : AreNamesOf Escaped program analysis names =
-    named _ program _ analysis names c.requires.form c.analysis.ensures c.names.ensures in
+    escaped_names _ program _ analysis names c.requires.form c.analysis.ensures c.names.ensures in
     let told : ℕ → Bool = λ bit. set_on side program analysis (facts_of table) point bit && is_bit_shown program analysis hides bit in
     takes_as _ _ _ _ c.write_point_set.ensures
     (ap (set_from c.args.column)

@@ -1,6 +1,7 @@
 use Rattle.std.proofs.Common.{◌≡◌, ◌+◌, ◌-◌, ℕ, List, subst, arith}
 use Rattle.point_sets.specs.code.Lines.{Lays, names_among}
 use Rattle.point_sets.proofs.sets.Laid.{lays-further, still_starts}
+use Rattle.point_sets.specs.code.PointSets.{shows}
 use Rattle.text_pieces.specs.Pieces.{Outlet, outlet}
 use Rattle.text_pieces.specs.declared.pieces.Pieces.{Pieces}
 use Rattle.point_sets.proofs.point_set.PointSet.write_bits.Goals as goal
@@ -20,7 +21,7 @@ loop-bit-preserved g c =
     let here : bit ≡ first + (bit - first) = omega (arith, c.loop-bit.auto.bit) in
     let more : bit - first + 1 ≡ bit + 1 - first = omega (arith, c.loop-bit.auto.bit) in
     subst (λ n. Lays (names_among c.args.self.now texts first n) c.args.line (at c.args.out.now) (at c.write_bit-last.new.out) c.write_bit-last.result) more
-    (lays-further c.args.self.now texts first (bit - first) 1 c.args.line c.loop-bit.last c.write_bit-last.result (at c.args.out.now) (at c.loop-bit.out)
+    (lays-further (shows c.args.self.now) texts first (bit - first) 1 c.args.line c.loop-bit.last c.write_bit-last.result (at c.args.out.now) (at c.loop-bit.out)
     (at c.write_bit-last.new.out) c.loop-bit.invariant
     (subst (λ b. Lays (names_among c.args.self.now texts b 1) c.loop-bit.last (at c.loop-bit.out) (at c.write_bit-last.new.out) c.write_bit-last.result)
     here c.write_bit-last.ensures))

@@ -1,6 +1,7 @@
 use Rattle.std.proofs.Common.{◌≡◌, ◌+◌, ◌-◌, ◌*◌, ◌<◌, ℕ, List, min, subst, arith}
 use Rattle.point_sets.specs.code.Lines.{Lays, names_among}
 use Rattle.point_sets.proofs.sets.Laid.{lays-further, still_starts}
+use Rattle.point_sets.specs.code.PointSets.{shows}
 use Rattle.text_pieces.specs.Pieces.{Outlet, outlet}
 use Rattle.text_pieces.specs.declared.pieces.Pieces.{Pieces}
 use Rattle.point_sets.proofs.point_set.PointSet.write_words.Goals as goal
@@ -20,7 +21,7 @@ loop-at-preserved g c =
     let here : first ≡ 0 + min c.args.bits first = omega (arith, below) in
     let more : min c.args.bits first + min (c.args.bits - first) 64 ≡ min c.args.bits (64 * (c.loop-at.at + 1)) = omega (arith, below) in
     subst (λ n. Lays (names_among c.args.self.now texts 0 n) c.args.line (at c.args.out.now) (at c.write_word-last.new.out) c.write_word-last.result) more
-    (lays-further c.args.self.now texts 0 (min c.args.bits first) (min (c.args.bits - first) 64) c.args.line c.loop-at.last c.write_word-last.result
+    (lays-further (shows c.args.self.now) texts 0 (min c.args.bits first) (min (c.args.bits - first) 64) c.args.line c.loop-at.last c.write_word-last.result
     (at c.args.out.now) (at c.loop-at.out) (at c.write_word-last.new.out) c.loop-at.invariant
     (subst (λ b. Lays (names_among c.args.self.now texts b (min (c.args.bits - first) 64)) c.loop-at.last (at c.loop-at.out) (at c.write_word-last.new.out)
     c.write_word-last.result) here c.write_word-last.ensures))
