@@ -1,4 +1,5 @@
-pub mod Ahead
 pub mod BusyRemarks
+pub mod Fields
 pub mod Numbers
 pub mod SameChanges
+pub mod Sources

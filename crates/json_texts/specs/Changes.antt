@@ -1,6 +1,6 @@
 -- Lines of JSON whose facts are differences: at each point the numbers of the bits that came and that went against the point before it in
 -- its procedure, and of those that come and go through its statement. What the bits are called stands in the first line, once.
-use Rattle.std.specs.Prelude.{◌≡◌, ℕ, ◌-◌, Bool, not, ◌&&◌, List, [], ◌∷◌, ◌++◌, map, flat_map, filter, length, nat_eq, if◌then◌else◌, codes, decimal}
+use Rattle.std.specs.Prelude.{◌≡◌, ℕ, Bool, List, [], ◌∷◌, ◌++◌, map, flat_map, filter, length, if◌then◌else◌, codes, decimal}
 use Rattle.std.specs.List.{range_with_len}
 use Rattle.flow_graph.specs.Points.{place_of, point_count, procedure_at}
 use Rattle.flow_graph.specs.Universes.{bits, definitions, expressions}
@@ -15,13 +15,11 @@ use Rattle.flow_views.specs.Json.{array, boolean, end_line, point_parts, remark_
 use Rattle.flow_views.specs.Views.{analysis_name, chosen_analyses, known_facts, procedure_name, shown_points}
 use Rattle.flow_views.specs.declared.view.Chosen.{Chosen}
 use Rattle.flow_views.specs.declared.view.View.{View}
+use Rattle.json_statements.specs.Parts.{definition_object, expression_object, parts_fields}
+use Rattle.point_sets.specs.Changes.{beyond, set_ahead}
 use Rattle.point_sets.specs.Sets.{behind, has_behind}
 use Rattle.tac_program.specs.Programs.{Program}
 use Rattle.text_pieces.specs.Strings.{quoted}
-
--- what one set has and another lacks
-abbrev pub beyond : (ℕ → Bool) → (ℕ → Bool) → ℕ → Bool
-beyond these those bit = these bit && not (those bit)
 
 -- the numbers of an analysis's bits that a set has
 abbrev pub numbers_in : Program → Analysis → (ℕ → Bool) → List ℕ
@@ -32,10 +30,6 @@ abbrev pub change_fields : Program → Analysis → (ℕ → Bool) → (ℕ → 
 change_fields program analysis old new =
     codes "\"came\":" ++ numbers_in program analysis (beyond new old)
     ++ codes ",\"went\":" ++ numbers_in program analysis (beyond old new)
-
--- the set at the point before in the same procedure: at the first point of one there is none, and this set is empty
-abbrev pub set_ahead : Program → Facts → ℕ → ℕ → Bool
-set_ahead program facts point bit = not (nat_eq (place_of program point).place 0) && facts.contains (point - 1) bit
 
 -- what the statement changes, where a set of its own stands behind it
 abbrev pub behind_changes : Program → Analysis → Facts → ℕ → List ℕ
@@ -64,17 +58,20 @@ program_head program =
     ++ codes ",\"definitions\":" ++ decimal (length (definitions program))
     ++ codes ",\"expressions\":" ++ decimal (length (expressions program))
 
+-- the line of the program, with what its definitions and expressions are called, and their parts
 abbrev pub named_program_line : Program → List ℕ
 named_program_line program =
     program_head program ++ codes ",\"definition_names\":" ++ names_field program Reach
-    ++ codes ",\"expression_names\":" ++ names_field program Avail ++ codes "}\n"
+    ++ codes ",\"expression_names\":" ++ names_field program Avail
+    ++ codes ",\"definition_parts\":" ++ array (map definition_object (definitions program))
+    ++ codes ",\"expression_parts\":" ++ array (map expression_object (expressions program)) ++ codes "}\n"
 
 abbrev pub changed_point_line : Program → Knowledge → Chosen → ℕ → List ℕ
 changed_point_line program known chosen point =
     codes "{\"type\":\"point\",\"point\":" ++ decimal point
     ++ codes ",\"procedure\":" ++ quoted (procedure_name program (procedure_at program point))
     ++ codes ",\"place\":" ++ decimal (place_of program point).place
-    ++ span_fields program point ++ point_parts program known point
+    ++ span_fields program point ++ point_parts program known point ++ parts_fields program point
     ++ flat_map (changes_field program known point) (chosen_analyses chosen) ++ codes "}\n"
 
 -- A remark in a line of its own; where the facts of very busy expressions are shown, those of a point stand in one line.

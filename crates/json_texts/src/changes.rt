@@ -1,8 +1,8 @@
 // Lines of JSON whose facts are differences.
 
-ghost use Rattle.std.specs.Prelude.{◌≡◌, ℕ, ◌<◌, ◌≤◌, ◌-◌, ◌&&◌, [], codes, filter, map, flat_map, length, nat_eq, true, IfOk, IfSome, if◌then◌else◌};
+ghost use Rattle.std.specs.Prelude.{◌≡◌, ℕ, ◌<◌, ◌≤◌, ◌&&◌, [], codes, filter, map, flat_map, length, true, IfOk, IfSome, if◌then◌else◌};
 ghost use Rattle.std.specs.List.{range_with_len};
-ghost use Rattle.flow_graph.specs.Points.{place_of, point_count};
+ghost use Rattle.flow_graph.specs.Points.{point_count};
 ghost use Rattle.flow_graph.specs.declared.analysis.Analysis.TheVariants.{Busy};
 ghost use Rattle.flow_reports.specs.Reports.{remarks_at};
 ghost use Rattle.report_answers.specs.Statements.{is_test as is_test_of};
@@ -15,26 +15,26 @@ ghost use Rattle.flow_views.specs.Views.{analysis_if, chosen_analyses, is_chosen
 ghost use Rattle.flow_views.specs.code.ViewProgram.{AreShown, IsShownPoint, IsShownTable, known_of};
 ghost use Rattle.flow_views.specs.declared.names.NameForm.TheVariants.{Quoted};
 ghost use Rattle.json_texts.specs.Changes.{IsJsonChanges, behind_changes, busy_line, busy_object, change_fields, changed_point_line, changed_remarks};
-ghost use Rattle.json_texts.specs.Changes.{changes_field, changes_with, named_program_line, names_field, remark_alone, set_ahead, very_busy};
-ghost use Rattle.json_texts.specs.code.Differences.{IsChange, old_set, told_by};
+ghost use Rattle.json_texts.specs.Changes.{changes_field, changes_with, named_program_line, names_field, remark_alone, very_busy};
 ghost use Rattle.json_texts.specs.code.Tells.{tells_busy, tests_at};
+ghost use Rattle.point_sets.specs.Changes.{set_ahead};
 ghost use Rattle.point_sets.specs.Sets.{behind, has_behind};
+ghost use Rattle.point_sets.specs.code.Changes.{IsChange, old_set, told_by};
 ghost use Rattle.text_pieces.specs.Pieces.{CanWrite, Writes};
 ghost use Rattle.text_pieces.specs.code.Lists.{some_stand, text_at};
 ghost use Rattle.tac_program.specs.Programs.{Program};
 
 use crate::OutOfMemory;
-use crate::differences::Change;
-use crate::json::{
-    JsonLine, JsonRemarks, write_array, write_boolean, write_end, write_place, write_point_parts,
-    write_point_place, write_program_head,
-};
+use crate::differences::write_changed;
+use crate::json::{JsonLine, JsonRemarks, write_array, write_end, write_point_parts};
+use crate::outlines::{write_boolean, write_place, write_point_place, write_program_head};
 use flow_graph::{Analysis, Graph};
 use flow_reports::{Findings, Remark, RemarkForm};
 use flow_team::Table;
 use flow_texts::write_number;
 use flow_views::{NameForm, PointForm, View, ViewProgram, ViewTables, analysis_name};
-use point_sets::{Side, has_behind};
+use json_statements::{write_definitions, write_expressions, write_parts_fields};
+use point_sets::{Change, Side, has_behind};
 use report_answers::ReportAnswers;
 use std::alloc::Global;
 use std::marker::Model;
@@ -53,21 +53,9 @@ fn write_change<K: Sink>(shown: &ViewProgram<'_>, out: &mut Pieces<'_, K>, chang
 {
     let bits = shown.found.graph.bits(change.new.table.analysis());
     out.write(b"\"came\":");
-    change.write_changed(out, &shown.names.numbers, true, bits);
+    write_changed(out, &shown.names.numbers, change, true, bits);
     out.write(b",\"went\":");
-    change.write_changed(out, &shown.names.numbers, false, bits);
-}
-
-// The point before one in its procedure; the point itself where it is the first.
-fn point_ahead(graph: &Graph<'_>, point: u32) -> u32
-    requires { point < point_count graph.now }
-    ensures { result ≡ (if nat_eq (place_of graph.now point).place 0 then point else point - 1) }
-{
-    if graph.place(point).place == 0 {
-        point
-    } else {
-        point.saturating_sub(1)
-    }
+    write_changed(out, &shown.names.numbers, change, false, bits);
 }
 
 // Writes what changed between the point before and this one.
@@ -87,13 +75,7 @@ fn write_point_change<K: Sink>(
         (set_ahead shown.now.found.graph.now (known_facts (known_of shown.now) table.now.analysis) point)
         ((known_facts (known_of shown.now) table.now.analysis).contains point)) }
 {
-    let graph = shown.found.graph;
-    let ahead = point_ahead(graph, point);
-    let change = Change {
-        old: shown.point_set(table, ahead, Side::Before),
-        from_none: graph.place(point).place == 0,
-        new: shown.point_set(table, point, Side::Before),
-    };
+    let change = shown.change(table, point, Side::Before);
     write_change(shown, out, &change);
 }
 
@@ -115,11 +97,7 @@ fn write_statement_change<K: Sink>(
         ((known_facts (known_of shown.now) table.now.analysis).contains point)
         (behind shown.now.found.graph.now table.now.analysis (known_facts (known_of shown.now) table.now.analysis) point)) }
 {
-    let change = Change {
-        old: shown.point_set(table, point, Side::Before),
-        from_none: false,
-        new: shown.point_set(table, point, Side::Behind),
-    };
+    let change = shown.change(table, point, Side::Behind);
     write_change(shown, out, &change);
 }
 
@@ -236,18 +214,22 @@ fn write_names_field<K: Sink>(shown: &ViewProgram<'_>, out: &mut Pieces<'_, K>, 
     out.write(b"]");
 }
 
-// Writes the line of the program, with what its bits are called.
+// Writes the line of the program, with what its bits are called, and what definitions and expressions are made of.
 fn write_named_program<K: Sink>(shown: &ViewProgram<'_>, out: &mut Pieces<'_, K>)
     requires ready { CanWrite K.Sink out.old }
     requires shown { AreShown shown.now }
     requires form { shown.now.names.form ≡ Quoted }
     ensures { Writes K.Sink out.old out.new (named_program_line shown.now.found.graph.now) }
 {
-    write_program_head(shown, out);
+    write_program_head(out, shown.found.graph);
     out.write(b",\"definition_names\":");
     write_names_field(shown, out, Analysis::Reach);
     out.write(b",\"expression_names\":");
     write_names_field(shown, out, Analysis::Avail);
+    out.write(b",\"definition_parts\":");
+    write_definitions(out, shown.found.graph);
+    out.write(b",\"expression_parts\":");
+    write_expressions(out, shown.found.graph);
     out.write(b"}\n");
 }
 
@@ -449,9 +431,10 @@ impl PointForm for ChangedPoints {
         if out.has_failed() {
             return;
         }
-        write_point_place(shown, out, point);
+        write_point_place(out, shown.found.graph, point);
         write_place(out, shown.found.graph, point);
         write_point_parts(shown, out, point);
+        write_parts_fields(out, shown.found.graph, point);
         write_changes_fields(shown, out, point);
         out.write(b"}\n");
     }
@@ -499,12 +482,18 @@ pub fn write_json_changes<F: RemarkForm, K: Sink>(
 /// The lines of JSON of [`JsonText`](crate::JsonText) with differences in place of sets:
 ///
 ///     {"type":"program","version":1,"points":2,"procedures":["main"],"variables":["x","y"],"definitions":3,"expressions":1,
-///      "definition_names":["x@entry","y@entry","x@2"],"expression_names":["x + y"]}
+///      "definition_names":["x@entry","y@entry","x@2"],"expression_names":["x + y"],
+///      "definition_parts":[{"variable":0,"point":null},{"variable":1,"point":null},{"variable":0,"point":0}],
+///      "expression_parts":[{"operator":"+","operands":[{"variable":0},{"variable":1}]}]}
 ///     {"type":"point","point":0,"procedure":"main","place":0,"line":2,"first":11,"last":19,"labels":[],"statement":"x = x + y",
 ///      "doubtful":false,"edges":[{"kind":"step","to":1}],
+///      "parts":{"kind":"binary","target":0,"operator":"+","operands":[{"variable":0},{"variable":1}]},"start":10,"end":19,
 ///      "reach":{"path":true,"came":[0,1],"went":[],"behind":{"came":[2],"went":[0]}}}
 ///
-/// - The first line has the names of all definitions and expressions, in the order of their numbers.
+/// - The first line has the names of all definitions and expressions, in the order of their numbers, and what they are made of: variables
+///   and points by number, and no point of a definition that stands for the value at the beginning.
+/// - `parts` is what the statement is made of, likewise; where a jump leads `edges` tell. `start` and `end` are its bytes in the text, from 0,
+///   the first and the one behind the last. At a procedure's end they are null.
 /// - `came` and `went` are the numbers of the bits that hold there and did not at the point before in the same procedure, and of those that
 ///   held there and do no more. At the first point of a procedure all that holds came.
 /// - `behind` has so those that hold behind the statement and not before it, and the other way round. It is null at a call and at a

@@ -4,7 +4,7 @@ ghost use Rattle.flow_team.specs.Tables.{facts_of};
 ghost use Rattle.std.specs.Prelude.{◌≡◌, ◌+◌, ◌++◌, ◌<◌, ◌≤◌, All, Some, codes, decimal, filter, flat_map, length, map, IfOk, IfSome};
 ghost use Rattle.std.specs.List.{range_with_len};
 ghost use Rattle.flow_graph.specs.Points.{place_of, point_count, procedure_at, statement_at};
-ghost use Rattle.flow_reports.specs.code.Findings.{AreFindings, IsRemarkIn};
+ghost use Rattle.flow_reports.specs.code.Findings.{AreChosenFindings, AreFindings, IsRemarkIn};
 ghost use Rattle.text_pieces.specs.code.Lists.{text_at};
 ghost use Rattle.text_pieces.specs.Pieces.{CanWrite, Writes};
 ghost use Rattle.report_answers.specs.code.Reported.{TellReport};
@@ -20,6 +20,9 @@ ghost use Rattle.text_pieces.specs.Strings.{quoted};
 ghost use Rattle.flow_views.specs.Views.{analysis_if, chosen_analyses, label_name, names_at, outcome, procedure_name, known_facts, is_chosen};
 
 use crate::OutOfMemory;
+use crate::outlines::{
+    PointOutline, write_boolean, write_place, write_point_fields, write_point_place, write_program,
+};
 use flow_graph::{Analysis, Edge, Graph};
 use flow_reports::{Findings, Remark, RemarkForm};
 use flow_team::Table;
@@ -44,51 +47,17 @@ fn write_named<K: Sink>(out: &mut Pieces<'_, K>, kind: &[u8], name: &[u8])
 // Writes the kind of a remark, and what it names.
 fn write_kind<K: Sink>(out: &mut Pieces<'_, K>, found: &Findings<'_>, remark: Remark)
     requires ready { CanWrite K.Sink out.old }
-    requires found { AreFindings found.now }
+    requires found { AreChosenFindings found.now }
     requires remark { IsRemarkIn found.now.graph.now remark }
     ensures { Writes K.Sink out.old out.new (remark_fields found.now.graph.now remark) }
 {
-    let name = found.name(remark);
+    let name = found.chosen_name(remark);
     match remark {
         Remark::NeverReached => out.write(b"\"never_reached\""),
         Remark::Unset { .. } => write_named(out, b"\"unset\",\"variable\":", name),
         Remark::Computed { .. } => write_named(out, b"\"computed\",\"expression\":", name),
         Remark::VeryBusy { .. } => write_named(out, b"\"busy\",\"expression\":", name),
         Remark::Dead { .. } => write_named(out, b"\"dead\",\"variable\":", name),
-    }
-}
-
-// Writes a place in the text.
-fn write_position<K: Sink>(out: &mut Pieces<'_, K>, position: u64)
-    requires { CanWrite K.Sink out.old }
-    ensures { Writes K.Sink out.old out.new (decimal position) }
-{
-    out.write(Buffer::new().format(position).as_bytes());
-}
-
-// Writes where a statement stands.
-fn write_span<K: Sink>(out: &mut Pieces<'_, K>, span: Span)
-    requires { CanWrite K.Sink out.old }
-    ensures { Writes K.Sink out.old out.new
-        (codes ",\"line\":" ++ decimal span.line ++ codes ",\"first\":" ++ decimal (span.start + 1) ++ codes ",\"last\":" ++ decimal span.end) }
-{
-    out.write(b",\"line\":");
-    write_number(out, span.line);
-    out.write(b",\"first\":");
-    write_position(out, span.start as u64 + 1);
-    out.write(b",\"last\":");
-    write_number(out, span.end);
-}
-
-/// Writes where the statement at a point stands; nulls at a procedure's end.
-pub(crate) fn write_place<K: Sink>(out: &mut Pieces<'_, K>, graph: &Graph<'_>, point: u32)
-    requires ready { CanWrite K.Sink out.old }
-    requires point { point < point_count graph.now }
-    ensures { Writes K.Sink out.old out.new (span_fields graph.now point) }
-{
-    match graph.stmt(point) {
-        Some(stmt) => write_span(out, stmt.span),
-        None => out.write(b",\"line\":null,\"first\":null,\"last\":null"),
     }
 }
 
@@ -103,6 +72,22 @@ pub fn write_remark_head<K: Sink>(
 )
     requires ready { CanWrite K.Sink out.old }
     requires found { AreFindings found.now }
+    requires point { point < point_count found.now.graph.now }
+    requires remark { IsRemarkIn found.now.graph.now remark }
+    ensures { Writes K.Sink out.old out.new (remark_head found.now.graph.now point remark) }
+{
+    write_chosen_head(out, found, point, remark);
+}
+
+/// The same of findings that may be of chosen bits alone.
+pub fn write_chosen_head<K: Sink>(
+    out: &mut Pieces<'_, K>,
+    found: &Findings<'_>,
+    point: u32,
+    remark: Remark,
+)
+    requires ready { CanWrite K.Sink out.old }
+    requires found { AreChosenFindings found.now }
     requires point { point < point_count found.now.graph.now }
     requires remark { IsRemarkIn found.now.graph.now remark }
     ensures { Writes K.Sink out.old out.new (remark_head found.now.graph.now point remark) }
@@ -133,18 +118,6 @@ impl RemarkForm for JsonLine {
     }
 }
 
-/// Writes a truth value.
-pub(crate) fn write_boolean<K: Sink>(out: &mut Pieces<'_, K>, value: bool)
-    requires { CanWrite K.Sink out.old }
-    ensures { Writes K.Sink out.old out.new (boolean value) }
-{
-    if value {
-        out.write(b"true");
-    } else {
-        out.write(b"false");
-    }
-}
-
 /// Writes the texts of those of a point's bits that lie before `bits` as an array.
 pub(crate) fn write_array<K: Sink>(
     out: &mut Pieces<'_, K>,
@@ -162,188 +135,6 @@ pub(crate) fn write_array<K: Sink>(
 {
     out.write(b"[");
     write_members(out, texts, table, point, bits);
-    out.write(b"]");
-}
-
-// Writes an edge that goes from call to callee or back, by the call's point and where it leads.
-fn write_site<K: Sink>(out: &mut Pieces<'_, K>, kind: &[u8], site: u32, target: u32)
-    requires { CanWrite K.Sink out.old }
-    ensures { Writes K.Sink out.old out.new (kind.now ++ decimal site ++ codes ",\"to\":" ++ decimal target ++ codes "}") }
-{
-    out.write(kind);
-    write_number(out, site);
-    out.write(b",\"to\":");
-    write_number(out, target);
-    out.write(b"}");
-}
-
-// Writes the outcome by which a step is taken.
-fn write_when<K: Sink>(out: &mut Pieces<'_, K>, when: Option<bool>)
-    requires { CanWrite K.Sink out.old }
-    ensures { Writes K.Sink out.old out.new (when_field when) }
-{
-    match when {
-        Some(holds) => {
-            out.write(b",\"when\":");
-            write_boolean(out, holds);
-        },
-        None => {},
-    }
-}
-
-// Writes the names of the procedures as an array.
-fn write_procedures<K: Sink>(shown: &ViewProgram<'_>, out: &mut Pieces<'_, K>)
-    requires ready { CanWrite K.Sink out.old }
-    requires shown { AreShown shown.now }
-    ensures { Writes K.Sink out.old out.new (array (map quoted shown.now.found.graph.now.procedure_names)) }
-{
-    let count = shown.found.graph.program().procs().len();
-    out.write(b"[");
-    for procedure in 0..count as u32 {
-        write_if(out, 0 < procedure, b",");
-        write_quoted(out, shown.procedure_name(procedure));
-    }
-    out.write(b"]");
-}
-
-// Writes the names of the variables as an array.
-fn write_variables<K: Sink>(shown: &ViewProgram<'_>, out: &mut Pieces<'_, K>)
-    requires ready { CanWrite K.Sink out.old }
-    ensures { Writes K.Sink out.old out.new (array (map quoted shown.now.found.graph.now.variable_names)) }
-{
-    let program = shown.found.graph.program();
-    out.write(b"[");
-    for variable in 0..program.variables() {
-        write_if(out, 0 < variable, b",");
-        write_quoted(out, program.variable(variable));
-    }
-    out.write(b"]");
-}
-
-/// Writes the line of the program but for its end, a brace and a line feed.
-pub(crate) fn write_program_head<K: Sink>(shown: &ViewProgram<'_>, out: &mut Pieces<'_, K>)
-    requires ready { CanWrite K.Sink out.old }
-    requires shown { AreShown shown.now }
-    ensures { Writes K.Sink out.old out.new (program_head shown.now.found.graph.now) }
-{
-    let graph = shown.found.graph;
-    out.write(b"{\"type\":\"program\",\"version\":1,\"points\":");
-    write_number(out, graph.points());
-    out.write(b",\"procedures\":");
-    write_procedures(shown, out);
-    out.write(b",\"variables\":");
-    write_variables(shown, out);
-    out.write(b",\"definitions\":");
-    write_number(out, graph.bits(Analysis::Reach));
-    out.write(b",\"expressions\":");
-    write_number(out, graph.bits(Analysis::Avail));
-}
-
-// Writes the line of the program.
-fn write_program<K: Sink>(shown: &ViewProgram<'_>, out: &mut Pieces<'_, K>)
-    requires ready { CanWrite K.Sink out.old }
-    requires shown { AreShown shown.now }
-    ensures { Writes K.Sink out.old out.new (program_line shown.now.found.graph.now) }
-{
-    write_program_head(shown, out);
-    out.write(b"}\n");
-}
-
-// Writes a statement between quotes.
-fn write_statement_field<K: Sink>(
-    shown: &ViewProgram<'_>,
-    out: &mut Pieces<'_, K>,
-    point: u32,
-    stmt: &Stmt,
-)
-    requires ready { CanWrite K.Sink out.old }
-    requires shown { AreShown shown.now }
-    requires point { point < point_count shown.now.found.graph.now }
-    requires statement { statement_at shown.now.found.graph.now point ≡ Some stmt.now }
-    ensures { Writes K.Sink out.old out.new (quoted (statement_text (names_at shown.now.found.graph.now point) stmt.now.kind)) }
-{
-    out.write(b"\"");
-    shown.write_statement(out, point, stmt);
-    out.write(b"\"");
-}
-
-// Writes the statement at a point; null at a procedure's end.
-fn write_statement_or_null<K: Sink>(shown: &ViewProgram<'_>, out: &mut Pieces<'_, K>, point: u32)
-    requires ready { CanWrite K.Sink out.old }
-    requires shown { AreShown shown.now }
-    requires point { point < point_count shown.now.found.graph.now }
-    ensures { Writes K.Sink out.old out.new (statement_field shown.now.found.graph.now point) }
-{
-    match shown.found.graph.stmt(point) {
-        Some(stmt) => write_statement_field(shown, out, point, stmt),
-        None => out.write(b"null"),
-    }
-}
-
-// Writes the names of labels of a point as an array.
-fn write_labels<K: Sink>(
-    shown: &ViewProgram<'_>,
-    out: &mut Pieces<'_, K>,
-    point: u32,
-    labels: &[Label],
-)
-    requires ready { CanWrite K.Sink out.old }
-    requires point { point < point_count shown.now.found.graph.now }
-    ensures { Writes K.Sink out.old out.new (array (map (λ label. quoted (label_name shown.now.found.graph.now point label)) labels.now)) }
-{
-    out.write(b"[");
-    for (place, label) in labels.iter().enumerate() {
-        write_if(out, 0 < place, b",");
-        write_quoted(out, shown.label_name(point, *label));
-    }
-    out.write(b"]");
-}
-
-// Writes a step.
-fn write_step_object<K: Sink>(
-    shown: &ViewProgram<'_>,
-    out: &mut Pieces<'_, K>,
-    source: u32,
-    target: u32,
-)
-    requires ready { CanWrite K.Sink out.old }
-    requires shown { AreShown shown.now }
-    requires source { source < point_count shown.now.found.graph.now }
-    ensures { Writes K.Sink out.old out.new (codes "{\"kind\":\"step\",\"to\":" ++ decimal target
-        ++ when_field (outcome shown.now.found.graph.now source target) ++ codes "}") }
-{
-    out.write(b"{\"kind\":\"step\",\"to\":");
-    write_number(out, target);
-    write_when(out, shown.outcome(source, target));
-    out.write(b"}");
-}
-
-// Writes an edge.
-fn write_edge_object<K: Sink>(shown: &ViewProgram<'_>, out: &mut Pieces<'_, K>, edge: Edge)
-    requires ready { CanWrite K.Sink out.old }
-    requires shown { AreShown shown.now }
-    requires edge { IsEndIn shown.now.found.graph.now edge }
-    ensures { Writes K.Sink out.old out.new (point_edge shown.now.found.graph.now edge) }
-{
-    match edge {
-        Edge::Step { from, to } => write_step_object(shown, out, from, to),
-        Edge::Call { site, to, .. } => write_site(out, b"{\"kind\":\"call\",\"site\":", site, to),
-        Edge::Ret { site, to, .. } => write_site(out, b"{\"kind\":\"return\",\"site\":", site, to),
-    }
-}
-
-// Writes edges as an array.
-fn write_edge_objects<K: Sink>(shown: &ViewProgram<'_>, out: &mut Pieces<'_, K>, edges: &[Edge])
-    requires ready { CanWrite K.Sink out.old }
-    requires shown { AreShown shown.now }
-    requires edges { All (IsEndIn shown.now.found.graph.now) edges.now }
-    ensures { Writes K.Sink out.old out.new (array (map (point_edge shown.now.found.graph.now) edges.now)) }
-{
-    out.write(b"[");
-    for (place, edge) in edges.iter().enumerate() {
-        write_if(out, 0 < place, b",");
-        write_edge_object(shown, out, *edge);
-    }
     out.write(b"]");
 }
 
@@ -412,29 +203,6 @@ fn write_facts_fields<K: Sink>(shown: &ViewProgram<'_>, out: &mut Pieces<'_, K>,
     }
 }
 
-/// Writes which point it is.
-pub(crate) fn write_point_place<K: Sink>(
-    shown: &ViewProgram<'_>,
-    out: &mut Pieces<'_, K>,
-    point: u32,
-)
-    requires ready { CanWrite K.Sink out.old }
-    requires shown { AreShown shown.now }
-    requires point { point < point_count shown.now.found.graph.now }
-    ensures { Writes K.Sink out.old out.new
-        (codes "{\"type\":\"point\",\"point\":" ++ decimal point ++ codes ",\"procedure\":"
-        ++ quoted (procedure_name shown.now.found.graph.now (procedure_at shown.now.found.graph.now point)) ++ codes ",\"place\":"
-        ++ decimal (place_of shown.now.found.graph.now point).place) }
-{
-    let place = shown.found.graph.place(point);
-    out.write(b"{\"type\":\"point\",\"point\":");
-    write_number(out, point);
-    out.write(b",\"procedure\":");
-    write_quoted(out, shown.procedure_name(place.procedure));
-    out.write(b",\"place\":");
-    write_number(out, place.place);
-}
-
 /// Writes the labels of a point, its statement, whether it is doubtful, and its edges.
 pub(crate) fn write_point_parts<K: Sink>(
     shown: &ViewProgram<'_>,
@@ -446,14 +214,13 @@ pub(crate) fn write_point_parts<K: Sink>(
     requires point { point < point_count shown.now.found.graph.now }
     ensures { Writes K.Sink out.old out.new (point_parts shown.now.found.graph.now (known_of shown.now) point) }
 {
-    out.write(b",\"labels\":");
-    write_labels(shown, out, point, shown.labels(point));
-    out.write(b",\"statement\":");
-    write_statement_or_null(shown, out, point);
-    out.write(b",\"doubtful\":");
-    write_boolean(out, shown.is_doubtful(point));
-    out.write(b",\"edges\":");
-    write_edge_objects(shown, out, shown.edges(point));
+    let outline = PointOutline {
+        graph: shown.found.graph,
+        point,
+        edges: shown.edges(point),
+        doubtful: shown.is_doubtful(point),
+    };
+    write_point_fields(out, &outline);
 }
 
 /// Writes the last line.
@@ -483,7 +250,7 @@ pub fn write_json<F: RemarkForm, K: Sink>(
     requires form { shown.now.names.form ≡ Quoted }
     ensures { Writes K.Sink out.old out.new (json_with (F.text form.now) shown.now.found.graph.now (known_of shown.now) shown.now.view) }
 {
-    write_program(shown, out);
+    write_program(out, shown.found.graph);
     shown.write_all_points(&JsonPoints, out);
     shown.write_all_points(&JsonRemarks { form }, out);
 }
@@ -501,7 +268,7 @@ impl PointForm for JsonPoints {
         if out.has_failed() {
             return;
         }
-        write_point_place(shown, out, point);
+        write_point_place(out, shown.found.graph, point);
         write_place(out, shown.found.graph, point);
         write_point_parts(shown, out, point);
         write_facts_fields(shown, out, point);

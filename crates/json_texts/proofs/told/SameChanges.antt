@@ -1,6 +1,6 @@
 -- The lines of differences of what the code's tables and answers tell are those of all that is known.
-use Rattle.std.proofs.Common.{◌≡◌, ◌∙◌, ℕ, ◌-◌, ◌<◌, ◌≤◌, Bool, true, false, not, ◌&&◌, List, [], ◌++◌, length, map, flat_map}
-use Rattle.std.proofs.Common.{Option, IfSome, if◌then◌else◌, nat_eq, codes, decimal, refl, sym, ap}
+use Rattle.std.proofs.Common.{◌≡◌, ◌∙◌, ℕ, ◌<◌, ◌≤◌, Bool, true, false, List, [], ◌++◌, length, map, flat_map}
+use Rattle.std.proofs.Common.{Option, IfSome, if◌then◌else◌, codes, decimal, refl, sym, ap}
 use Rattle.flow_graph.specs.Edges.{edges_from}
 use Rattle.flow_graph.specs.Paths.{target_of}
 use Rattle.flow_graph.specs.Points.{place_of, point_count, procedure_at}
@@ -21,11 +21,12 @@ use Rattle.flow_views.specs.code.ViewProgram.{TellSame}
 use Rattle.flow_views.specs.declared.view.Chosen.{Chosen}
 use Rattle.flow_views.specs.declared.view.Look.{Look}
 use Rattle.flow_views.specs.declared.view.View.{View}
-use Rattle.flow_views.proofs.facts.Ahead.{before_shown}
+use Rattle.flow_views.proofs.facts.Ahead.{same_ahead}
 use Rattle.flow_views.proofs.facts.Behind.{next_shown, same_set_on}
 use Rattle.flow_views.proofs.texts.SameTexts.{same_chosen, same_shown, shown_below}
+use Rattle.json_statements.specs.Parts.{parts_fields}
 use Rattle.json_texts.specs.Changes.{behind_changes, busy_line, change_fields, changed_point_line, changed_remarks, changes_field, changes_with}
-use Rattle.json_texts.specs.Changes.{json_changes, named_program_line, remark_alone, set_ahead, very_busy}
+use Rattle.json_texts.specs.Changes.{json_changes, named_program_line, remark_alone, very_busy}
 
 module _ (program : Program) (sound : IsSound program) (one other : Knowledge) (agree : Agree program one other) (chosen : Chosen)
     (procedure : Option ℕ) (look : Look) (there : IfSome procedure (λ p. p < length program.procedures))
@@ -40,26 +41,6 @@ module _ (program : Program) (sound : IsSound program) (one other : Knowledge) (
     below = shown_below program procedure there point at
 
     module _ (analysis : Analysis) (is : is_chosen chosen analysis ≡ true) where
-      these : Facts
-      these = known_facts one analysis
-
-      those : Facts
-      those = known_facts other analysis
-
-      same_ahead : set_ahead program (known_facts one analysis) point ≡ set_ahead program (known_facts other analysis) point
-      same_ahead = by_test (nat_eq (place_of program point).place 0) refl
-        where
-          set : Facts → Bool → ℕ → Bool
-          set = λ facts first bit. not first && facts.contains (point - 1) bit
-
-          by_test : (b : Bool) → nat_eq (place_of program point).place 0 ≡ b
-              → set (known_facts one analysis) (nat_eq (place_of program point).place 0)
-              ≡ set (known_facts other analysis) (nat_eq (place_of program point).place 0)
-          by_test true first = ap (set (known_facts one analysis)) first ∙ sym (ap (set (known_facts other analysis)) first)
-          by_test false later =
-              let same = told analysis is (point - 1) (before_shown program procedure there point below at later) in
-              λ i bit. not (nat_eq (place_of program point).place 0) && same.set i bit
-
       same_behind : has_behind program point ≡ true
           → behind program analysis (known_facts one analysis) point ≡ behind program analysis (known_facts other analysis) point
       same_behind stands =
@@ -87,7 +68,8 @@ module _ (program : Program) (sound : IsSound program) (one other : Knowledge) (
       same_field : changes_field program one point analysis ≡ changes_field program other point analysis
       same_field =
           let same = told analysis is point at in
-          let ahead = same_ahead in
+          let ahead = same_ahead program procedure there (known_facts one analysis) (known_facts other analysis)
+          (told analysis is) point below at in
           let behind_same = same_behind_changes in
           λ i. codes ",\"" ++ analysis_name analysis ++ codes "\":{\"path\":" ++ boolean (same.path i)
           ++ codes "," ++ change_fields program analysis (ahead i) (same.set i)
@@ -105,6 +87,7 @@ module _ (program : Program) (sound : IsSound program) (one other : Knowledge) (
         ++ codes ",\"statement\":" ++ statement_field program point
         ++ codes ",\"doubtful\":" ++ boolean (doubtful i)
         ++ codes ",\"edges\":" ++ array (map (point_edge program) (edges_from program point)))
+        ++ parts_fields program point
         ++ fields i ++ codes "}\n"
 
     same_remarks_told : changed_remarks program one chosen point ≡ changed_remarks program other chosen point

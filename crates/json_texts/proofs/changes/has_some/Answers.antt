@@ -1,6 +1,6 @@
 use Rattle.std.proofs.Common.{◌∙◌, ℕ, Bool, sym, arith}
 use Rattle.flow_team.specs.Tables.{facts_of}
-use Rattle.json_texts.proofs.told.Numbers.{none_below, some_below}
+use Rattle.point_sets.proofs.sets.Some.{none_below, some_below}
 use Rattle.json_texts.proofs.changes.has_some.Goals as goal
 
 pub returns-then-contains : goal.returns-then-contains

@@ -4,7 +4,7 @@ use Rattle.flow_graph.specs.Universes.{bits}
 use Rattle.flow_graph.specs.declared.analysis.Analysis.{Analysis}
 use Rattle.flow_views.specs.Json.{array}
 use Rattle.json_texts.specs.Changes.{numbers_in}
-use Rattle.json_texts.specs.code.Differences.{changed}
+use Rattle.point_sets.specs.code.Changes.{changed}
 use Rattle.json_texts.proofs.told.Numbers.{enough_numbers, numbers_told}
 use Rattle.tac_program.specs.Programs.{Program}
 use Rattle.text_pieces.proofs.sinks.Taking.{takes_as, takes_then}

@@ -4,7 +4,8 @@ use Rattle.flow_team.specs.Tables.{Facts}
 use Rattle.flow_views.specs.Json.{boolean}
 use Rattle.flow_views.specs.Views.{analysis_name, known_facts}
 use Rattle.flow_views.specs.code.ViewProgram.{known_of}
-use Rattle.json_texts.specs.Changes.{behind_changes, change_fields, set_ahead}
+use Rattle.json_texts.specs.Changes.{behind_changes, change_fields}
+use Rattle.point_sets.specs.Changes.{set_ahead}
 use Rattle.tac_program.specs.Programs.{Program}
 use Rattle.text_pieces.proofs.sinks.Taking.{takes_as, takes_then}
 use Rattle.json_texts.proofs.changes.write_changes_field.Goals as goal

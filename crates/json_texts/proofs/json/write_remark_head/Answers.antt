@@ -1,8 +1,5 @@
-use Rattle.text_pieces.proofs.sinks.Taking.{takes_then}
+use Rattle.flow_reports.proofs.knowledge.KnownReports.{chosen_findings}
 use Rattle.json_texts.proofs.json.write_remark_head.Goals as goal
 
-pub returns : goal.returns
-returns g c =
-    takes_then _ _ _ _ _ (takes_then _ _ _ _ _ (takes_then _ _ _ _ _ (takes_then _ _ _ _ _
-    c.write.ensures c.write_number.ensures) c.write_place.ensures) c.write-2.ensures)
-    c.write_kind.ensures
+pub write_chosen_head-requires-clause-found : goal.write_chosen_head-requires-clause-found
+write_chosen_head-requires-clause-found g c = chosen_findings c.args.found.now c.requires.found

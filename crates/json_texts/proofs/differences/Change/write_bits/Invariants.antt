@@ -1,9 +1,0 @@
-use Rattle.std.proofs.Common.{false}
-use Rattle.text_pieces.specs.Pieces.{outlet}
-use Rattle.flow_texts.specs.code.Members.{Wrote, chosen}
-use Rattle.json_texts.specs.code.Differences.{changed}
-use Rattle.json_texts.proofs.differences.Change.write_bits.Given as goal
-
-abbrev pub invariant-loop-bit : goal.invariant-loop-bit
-invariant-loop-bit g l =
-    Wrote l.texts.between (chosen l.texts.texts (changed l.self l.came)) false 0 l.bit (outlet g.K.Sink l.fn.out) (outlet g.K.Sink l.out) l.others

@@ -1,6 +1,0 @@
-use Rattle.text_pieces.proofs.sinks.Taking.{takes_then}
-use Rattle.json_texts.proofs.json.write_statement_field.Goals as goal
-
-pub returns : goal.returns
-returns g c =
-    takes_then _ _ _ _ _ (takes_then _ _ _ _ _ c.write.ensures c.write_statement.ensures) c.write-2.ensures
