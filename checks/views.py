@@ -1,6 +1,7 @@
 """Tries tacview on each program of examples/. Each line of JSON is parsed, held against
 docs/tacview.schema.json, and compared with what tacflow writes of the same program: tables, report,
-listing and source; differences give the sets of the other form. A page has these lines. Each picture
+listing and source; differences give the sets of the other form, and parts the lines of the whole. A page
+has these lines. Each picture
 is compared with one that is made of the lines, and goes through Graphviz, where `dot` is there. Then the facts of one procedure of a larger program have to do with
 the memory of its points, and the report of a program with many tests and expressions with that of
 the words that have a bit. TACVIEW=/path/to/program and TACFLOW=/path/to/program take other programs
@@ -261,8 +262,39 @@ def set_lines(head: str, names: list[str]) -> list[str]:
     return lines
 
 
+def change_lines(head: str, side: str, old: list[str], new: list[str]) -> list[str]:
+    """What came and what went, as a picture has it: no line of what is nothing."""
+    changes = {
+        "came": [name for name in new if name not in old],
+        "went": [name for name in old if name not in new],
+    }
+    lines: list[str] = []
+    for word, names in changes.items():
+        lines += set_lines(f"{head} {word}{side}: ", names) if names else []
+    return lines
+
+
+def differing(points: list[Row]) -> list[Row]:
+    """The points with the lines of what changes against the point before in the same procedure, and
+    through statements whose sets behind them are there."""
+    shown = []
+    held: dict[str, list[str]] = {}
+    for point in points:
+        lines: list[str] = []
+        for name in ANALYSES:
+            old, new = held[name] if point["place"] else [], point[name]["names"]
+            lines += change_lines(name, "", old, new)
+            if "behind" in point[name]:
+                lines += change_lines(name, " behind", new, point[name]["behind"])
+            held[name] = new
+        shown.append({**point, "lines": lines})
+    return shown
+
+
 def fact_lines(point: Row) -> list[str]:
     """The lines of a point's facts."""
+    if "lines" in point:
+        return list(point["lines"])
     lines: list[str] = []
     for name in ANALYSES:
         if name in point:
@@ -337,7 +369,8 @@ def picture_of(program: Row, points: list[Row], remarks: list[Row], hovers: bool
 
 
 def check_picture(source: bytes) -> None:
-    """Pictures are what the lines of JSON make, with facts or without, on one side or on both."""
+    """Pictures are what the lines of JSON make, with facts or without, on one side or on both, or
+    with what changes."""
     for facts in (["--facts", "all"], ["--facts", "reach"]):
         wanted = picture_of(*objects(source, *facts))
         assert run(TACVIEW, facts, source).decode() == wanted, facts
@@ -345,6 +378,9 @@ def check_picture(source: bytes) -> None:
     words = ["--facts", "all", "--hide-entry", "--facts-behind"]
     wanted = picture_of(program, both_sides(points), remarks)
     assert run(TACVIEW, words, source).decode() == wanted, words
+    for own, changes in (([], differing(points)), (words[2:], differing(both_sides(points)))):
+        told = run(TACVIEW, ["--facts", "all", *own, "--changes"], source).decode()
+        assert told == picture_of(program, changes, remarks), own
     hovering = picture_of(program, both_sides(points), remarks, hovers=True)
     assert run(TACVIEW, [*words, "--facts-on-hover"], source).decode() == hovering
     told = run(TACVIEW, [*words, "--legend"], source).decode()
@@ -381,12 +417,63 @@ def check_change(point: Row, wanted: Row, points: list[Row], names: dict[str, li
             assert told == set(behind(wanted, points, analysis)), (point, analysis)
 
 
+def operand_of(word: str, variables: list[str]) -> Row:
+    """An operand, by number or as one."""
+    return {"number": int(word)} if word.isdigit() else {"variable": variables.index(word)}
+
+
+def value_of(words: list[str], variables: list[str]) -> Row:
+    """The operator of a right side, where there is one, and the operands."""
+    if len(words) == 3:
+        operands = [operand_of(word, variables) for word in words[::2]]
+        return {"operator": words[1], "operands": operands}
+    if words[0][0] in "-~!":
+        return {"operator": words[0][0], "operands": [operand_of(words[0][1:], variables)]}
+    return {"operands": [operand_of(words[0], variables)]}
+
+
+def parts_of(statement: str | None, program: Row) -> Row | None:
+    """What a statement is made of, read from its text."""
+    if statement is None:
+        return None
+    variables, words = program["variables"], statement.split()
+    kind = words[0].replace("ifFalse", "if_false")
+    if kind in ("goto", "return", "skip"):
+        return {"kind": kind}
+    if kind == "read":
+        return {"kind": kind, "target": variables.index(words[1])}
+    if kind == "call":
+        callees = [program["procedures"].index(name) for name in words[1::2]]
+        return {"kind": kind, "callees": callees}
+    if kind in ("if", "if_false", "print"):
+        value = value_of(words[1:-2] if kind != "print" else words[1:], variables)
+        return {"kind": "if_compare" if "operator" in value else kind} | value
+    value = value_of(words[2:], variables)
+    kinds = {True: "unary" if len(words) == 3 else "binary", False: "copy"}
+    return {"kind": kinds["operator" in value], "target": variables.index(words[0])} | value
+
+
+def check_parts(program: Row, points: list[Row]) -> None:
+    """Statements, definitions and expressions are made of what their texts say."""
+    variables, lines = program["variables"], {row["point"]: row["line"] for row in points}
+    for row in points:
+        assert row["parts"] == parts_of(row["statement"], program), row
+        first, last = row["first"], row["last"]
+        assert (row["start"], row["end"]) == (first if first is None else first - 1, last), row
+    for name, parts in zip(program["definition_names"], program["definition_parts"], strict=True):
+        line = "entry" if parts["point"] is None else lines[parts["point"]]
+        assert name == f"{variables[parts['variable']]}@{line}", (name, parts)
+    for name, parts in zip(program["expression_names"], program["expression_parts"], strict=True):
+        assert parts == value_of(name.split(), variables), (name, parts)
+
+
 def check_changes(source: bytes) -> None:
     """Differences give the sets of the other form, and the line of very busy expressions what the
     other form has one by one."""
     program, points, remarks = objects(source)
     named, differing, told = objects(source, "--changes")
     names = names_by_number(named)
+    check_parts(named, differing)
     assert {name: named[name] for name in program} == program, named
     held: dict[str, set[int]] = {}
     for point, wanted in zip(differing, points, strict=True):
@@ -426,6 +513,7 @@ def check_dot(source: bytes) -> None:
     names = objects(source)[0]["procedures"]
     pictures: list[list[str]] = [[], ["--facts", "all", "--legend"]]
     pictures += [["--facts", "all", "--facts-behind", "--facts-on-hover"]]
+    pictures += [["--facts", "all", "--changes", "--legend"]]
     pictures += (["--procedure", name, "--facts", "reach,busy"] for name in names)
     unset = [row for row in objects(source)[2] if row["kind"] == "unset"]
     pictures += (["--because", f"{row['line']}:{row['variable']}"] for row in unset[:1])
@@ -446,6 +534,19 @@ def check_paths(source: bytes) -> None:
             less = {name: value for name, value in row.items() if name != field}
             assert field not in row or Schema().fault(less) is not None, (field, row)
             assert Schema().fault({**row, field: -1}) is not None, (field, row)
+
+
+def check_parts(source: bytes) -> None:
+    """Each line of a part is as its schema says, and two parts have each line of the whole once."""
+    words = ["--format", "json", "--facts", "none"]
+    whole = run(TACVIEW, words, source).splitlines()
+    rows = [whole[0]]
+    for part in ("1/2", "2/2"):
+        lines = run(TACVIEW, [*words, "--part", part], source).splitlines()
+        check_schema([json.loads(line) for line in lines])
+        assert lines[1] == whole[0], lines[1]
+        rows += lines[2:-1]
+    assert sorted(rows) == sorted(whole), (rows, whole)
 
 
 def run_within(kilobytes: int, words: list[str], source: bytes) -> bytes:
@@ -538,7 +639,15 @@ def check_page(source: bytes) -> None:
     assert lines_in(written("html", "--paths")) == shown + paths
 
 
-CHECKS = (check_json, check_changes, check_paths, check_page, check_picture, check_dot)
+CHECKS = (
+    check_json,
+    check_parts,
+    check_changes,
+    check_paths,
+    check_page,
+    check_picture,
+    check_dot,
+)
 
 
 def main() -> int:

@@ -1,5 +1,6 @@
 -- What is shown of a program.
 use Rattle.std.specs.Prelude.{◌≡◌, ℕ, true, false, List, [], Option, None, Some, slice_get}
+use Rattle.json_parts.specs.JsonParts.{IsJsonPart}
 use Rattle.json_texts.specs.Changes.{IsJsonChanges}
 use Rattle.tac_program.specs.Programs.{Program}
 use Rattle.flow_parts.specs.Parts.{IsPart, digest_of}
@@ -41,6 +42,11 @@ abbrev pub IsReportOrPart : Option (ℕ × ℕ) → (digest : List ℕ) → Prog
 IsReportOrPart None digest program out = IsReport program out × ListsSafely program out
 IsReportOrPart (Some share) digest program out = IsPart program digest share.1 share.0 out
 
+-- The lines of JSON, or a part of those of all procedures without facts.
+abbrev pub IsJsonOrPart : Option (ℕ × ℕ) → (digest : List ℕ) → Program → View → List ℕ → Type 0
+IsJsonOrPart None digest program view out = IsJson program view out
+IsJsonOrPart (Some share) digest program view out = IsJsonPart program digest share.1 share.0 out
+
 -- A page around these lines, under this title.
 pub record IsPage (title : Option (List ℕ)) (IsLines : List ℕ → Type 0) (out : List ℕ) : Type 0 where
   pub lines : List ℕ
@@ -48,7 +54,7 @@ pub record IsPage (title : Option (List ℕ)) (IsLines : List ℕ → Type 0) (o
   pub is_page : out ≡ page_of title lines
 
 -- What is asked for of a program: which text, with the facts of which analyses, of which procedure, with the path of which use, which part
--- of a report, under which title, and how a picture looks.
+-- of it, under which title, and how a picture looks.
 pub record Request : Type 0 where
   pub format : Format
   pub facts : Chosen
@@ -70,10 +76,10 @@ request_of options = record {
   look = look_of options;
 }
 
--- The text of each format. A report is of the whole program whatever the view.
+-- The text of each format. A report is of the whole program whatever the view, and so is a part.
 abbrev pub IsText : Format → Request → (digest : List ℕ) → Program → View → List ℕ → Type 0
 IsText format.Dot request digest program view out = IsPicture request.because program view out
-IsText format.Json request digest program view out = IsJson program view out
+IsText format.Json request digest program view out = IsJsonOrPart request.share digest program view out
 IsText format.JsonPaths request digest program view out = IsJsonWithPaths false program view out
 IsText format.JsonChanges request digest program view out = IsJsonChanges program view out
 IsText format.Report request digest program view out = IsReportOrPart request.share digest program out

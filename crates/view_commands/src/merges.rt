@@ -1,4 +1,4 @@
-// The report that files with its parts make.
+// The report, or the lines of JSON, that files with parts make.
 
 ghost use Rattle.std.specs.Prelude.{◌≡◌, [], IfOk, map, option_map, slice_index_or};
 ghost use Rattle.view_commands.specs.Merges.{fault_words, file_line, files_to_merge, merge_line, merged_files};
@@ -29,6 +29,7 @@ fn fault_words<'a>(fault: PartFault) -> &'a [u8]
     match fault {
         PartFault::NoPart => b"is no part of a report",
         PartFault::CutShort => b"is cut short",
+        PartFault::OtherForm => b"is a part in another form than the first",
         PartFault::OtherProgram => b"is a part of another program's report",
         PartFault::OtherCount => b"is one of another number of parts",
         PartFault::Double => b"is a part that a file before it is",
@@ -72,7 +73,7 @@ fn merge_line(alloc: Global, names: &[&str], fault: MergeFault) -> Result<Vec<u8
     }
 }
 
-/// The report that the texts of files make, in whatever order they stand, or the line that tells the first fault with the name of its file.
+/// The report, or the lines of JSON, that the texts of files make, in whatever order they stand, or the line that tells the first fault with the name of its file.
 /// Fails only where memory runs out.
 pub fn merge_files(
     alloc: Global,

@@ -11,10 +11,11 @@ ghost use Rattle.report_answers.specs.code.Reported.{TellReport};
 ghost use Rattle.flow_views.specs.Dots.{IsDot};
 ghost use Rattle.flow_views.specs.Json.{IsJson};
 ghost use Rattle.flow_views.specs.ViewTables.{AreViewTables};
+ghost use Rattle.json_parts.specs.JsonParts.{IsJsonPart};
 ghost use Rattle.json_texts.specs.Changes.{IsJsonChanges};
 ghost use Rattle.flow_parts.specs.Parts.{IsPart};
 ghost use Rattle.page_texts.specs.Pages.{page_of};
-ghost use Rattle.view_commands.specs.Views.{HasProcedure, IsPage, IsPicture, IsReportOrPart, IsShownBy, IsText, LacksNamed, LacksProcedure};
+ghost use Rattle.view_commands.specs.Views.{HasProcedure, IsJsonOrPart, IsPage, IsPicture, IsReportOrPart, IsShownBy, IsText, LacksNamed, LacksProcedure};
 ghost use Rattle.view_commands.specs.Views.{LacksRemark, ShowsProcedure, digest_for, request_of, view_for};
 ghost use Rattle.view_words.specs.Commands.{because_queried, name_queried, share_queried, title_queried};
 
@@ -26,6 +27,7 @@ use flow_paths::{JsonPathsText, PathDotText};
 use flow_runs::{Fault, OutOfMemory, Output, graph_of, push_report, push_text};
 use flow_team::Team;
 use flow_views::{View, ViewTables, shown_points};
+use json_parts::JsonPartText;
 use json_texts::{JsonChangesText, JsonText};
 use page_texts::PageText;
 use part_texts::Share;
@@ -355,6 +357,52 @@ fn push_report_or_part<R: Threads + Sync, K: Sink>(
     }
 }
 
+// Writes a part of the lines of JSON.
+fn push_json_part<R: Threads + Sync, K: Sink>(
+    team: &Team<'_, R, Progress>,
+    alloc: Global,
+    graph: &Graph<'_>,
+    digest: &[u8],
+    share: Share,
+    sink: &mut K,
+) -> Result<(), Fault>
+    requires threads { IsSync R.row }
+    requires below { K.faults sink.old < 2 ^ 32 - 1 }
+    ensures delivers { Delivers (IsJsonPart graph.now digest.now share.count share.part) (K.contents sink.old) (K.contents sink.new) result }
+    ensures flushed { OnOk result (K.flushed sink.new ≡ true) }
+    ensures fault { IfErr result (OfProgram (λ _. ⊥) ⊥ ⊥) }
+    ensures faults { K.faults sink.new ≡ K.faults sink.old + write_faults_in result }
+{
+    let chosen = part_bits(graph, share.count, share.part);
+    let answers = ReportAnswers::of_chosen(team, alloc, graph, chosen)?;
+    let text = JsonPartText::of(alloc, graph, &answers, digest, share)?;
+    push_text(alloc, &text, sink)
+}
+
+// Writes the lines of JSON, or the part of them that is asked for.
+fn push_json_or_part<R: Threads + Sync, K: Sink>(
+    team: &Team<'_, R, Progress>,
+    alloc: Global,
+    graph: &Graph<'_>,
+    shown: Shown<'_>,
+    options: &Options,
+    sink: &mut K,
+) -> Result<(), Fault>
+    requires threads { IsSync R.row }
+    requires below { K.faults sink.old < 2 ^ 32 - 1 }
+    requires there { IfSome shown.view.procedure (λ number. number < length graph.now.procedure_names) }
+    ensures delivers { Delivers (IsJsonOrPart (share_queried options.now) shown.entry.digest.now graph.now shown.entry.view) (K.contents sink.old)
+        (K.contents sink.new) result }
+    ensures flushed { OnOk result (K.flushed sink.new ≡ true) }
+    ensures fault { IfErr result (OfProgram (λ _. ⊥) ⊥ ⊥) }
+    ensures faults { K.faults sink.new ≡ K.faults sink.old + write_faults_in result }
+{
+    match options.asked.share {
+        Some(share) => push_json_part(team, alloc, graph, shown.digest, share, sink),
+        None => push_json(team, alloc, graph, shown.view, sink),
+    }
+}
+
 /// What is shown of a program, and its digest where a part names it.
 #[derive(Clone, Copy)]
 struct Shown<'a> {
@@ -383,7 +431,7 @@ fn view_of_graph<R: Threads + Sync, K: Sink>(
     let view = shown.view;
     match options.format {
         Format::Dot => push_picture(team, alloc, graph, view, options, sink),
-        Format::Json => push_json(team, alloc, graph, view, sink),
+        Format::Json => push_json_or_part(team, alloc, graph, shown, options, sink),
         Format::JsonPaths => push_json_paths(team, alloc, graph, view, sink),
         Format::JsonChanges => push_json_changes(team, alloc, graph, view, sink),
         Format::Report => push_report_or_part(team, alloc, graph, shown.digest, options, sink),

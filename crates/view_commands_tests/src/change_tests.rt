@@ -61,14 +61,17 @@ const ENDS: &[(&str, Queried<'static>, &str)] = &[
         "proc main\nL: x = 1\nend\n",
         WHOLE,
         "{\"type\":\"program\",\"version\":1,\"points\":2,\"procedures\":[\"main\"],\"variables\":[\"x\"],\"definitions\":2,\
-        \"expressions\":0,\"definition_names\":[\"x@entry\",\"x@2\"],\"expression_names\":[]}\n\
+        \"expressions\":0,\"definition_names\":[\"x@entry\",\"x@2\"],\"expression_names\":[],\"definition_parts\":[{\"variable\":0,\
+        \"point\":null},{\"variable\":0,\"point\":0}],\"expression_parts\":[]}\n\
         {\"type\":\"point\",\"point\":0,\"procedure\":\"main\",\"place\":0,\"line\":2,\"first\":14,\"last\":18,\"labels\":[\"L\"],\
-        \"statement\":\"x = 1\",\"doubtful\":false,\"edges\":[{\"kind\":\"step\",\"to\":1}],\"reach\":{\"path\":true,\"came\":[0],\
+        \"statement\":\"x = 1\",\"doubtful\":false,\"edges\":[{\"kind\":\"step\",\"to\":1}],\"parts\":{\"kind\":\"copy\",\
+        \"target\":0,\"operands\":[{\"number\":1}]},\"start\":13,\"end\":18,\"reach\":{\"path\":true,\"came\":[0],\
         \"went\":[],\"behind\":{\"came\":[1],\"went\":[0]}},\"live\":{\"path\":true,\"came\":[],\"went\":[],\"behind\":{\"came\":[],\
         \"went\":[]}},\"avail\":{\"path\":true,\"came\":[],\"went\":[],\"behind\":{\"came\":[],\"went\":[]}},\"busy\":{\"path\":true,\
         \"came\":[],\"went\":[],\"behind\":{\"came\":[],\"went\":[]}}}\n\
         {\"type\":\"point\",\"point\":1,\"procedure\":\"main\",\"place\":1,\"line\":null,\"first\":null,\"last\":null,\"labels\":[],\
-        \"statement\":null,\"doubtful\":false,\"edges\":[],\"reach\":{\"path\":true,\"came\":[1],\"went\":[0],\"behind\":null},\
+        \"statement\":null,\"doubtful\":false,\"edges\":[],\"parts\":null,\"start\":null,\"end\":null,\"reach\":{\"path\":true,\"came\":[1],\
+        \"went\":[0],\"behind\":null},\
         \"live\":{\"path\":true,\"came\":[],\"went\":[],\"behind\":null},\"avail\":{\"path\":true,\"came\":[],\"went\":[],\
         \"behind\":null},\"busy\":{\"path\":true,\"came\":[],\"went\":[],\"behind\":null}}\n\
         {\"type\":\"remark\",\"point\":0,\"line\":2,\"first\":14,\"last\":18,\"kind\":\"dead\",\"variable\":\"x\"}\n\
@@ -80,21 +83,30 @@ const ENDS: &[(&str, Queried<'static>, &str)] = &[
         EXPRESSIONS_OF_F,
         "{\"type\":\"program\",\"version\":1,\"points\":8,\"procedures\":[\"main\",\"f\"],\"variables\":[\"a\",\"b\",\"x\",\"y\"],\
         \"definitions\":8,\"expressions\":1,\"definition_names\":[\"a@entry\",\"b@entry\",\"x@entry\",\"y@entry\",\"a@2\",\"b@3\",\
-        \"x@8\",\"y@10\"],\"expression_names\":[\"a + b\"]}\n\
+        \"x@8\",\"y@10\"],\"expression_names\":[\"a + b\"],\"definition_parts\":[{\"variable\":0,\"point\":null},\
+        {\"variable\":1,\"point\":null},{\"variable\":2,\"point\":null},{\"variable\":3,\"point\":null},\
+        {\"variable\":0,\"point\":0},{\"variable\":1,\"point\":1},{\"variable\":2,\"point\":5},{\"variable\":3,\"point\":6}],\
+        \"expression_parts\":[{\"operator\":\"+\",\"operands\":[{\"variable\":0},{\"variable\":1}]}]}\n\
         {\"type\":\"point\",\"point\":4,\"procedure\":\"f\",\"place\":0,\"line\":7,\"first\":43,\"last\":53,\"labels\":[],\
         \"statement\":\"if a goto L\",\"doubtful\":false,\"edges\":[{\"kind\":\"step\",\"to\":5,\"when\":false},{\"kind\":\"step\",\
-        \"to\":6,\"when\":true}],\"avail\":{\"path\":true,\"came\":[],\"went\":[],\"behind\":{\"came\":[],\"went\":[]}},\
+        \"to\":6,\"when\":true}],\"parts\":{\"kind\":\"if\",\"operands\":[{\"variable\":0}]},\"start\":42,\"end\":53,\
+        \"avail\":{\"path\":true,\"came\":[],\"went\":[],\"behind\":{\"came\":[],\"went\":[]}},\
         \"busy\":{\"path\":true,\"came\":[0],\"went\":[],\"behind\":{\"came\":[],\"went\":[]}}}\n\
         {\"type\":\"point\",\"point\":5,\"procedure\":\"f\",\"place\":1,\"line\":8,\"first\":55,\"last\":63,\"labels\":[],\
-        \"statement\":\"x = a + b\",\"doubtful\":false,\"edges\":[{\"kind\":\"step\",\"to\":6}],\"avail\":{\"path\":true,\"came\":[],\
+        \"statement\":\"x = a + b\",\"doubtful\":false,\"edges\":[{\"kind\":\"step\",\"to\":6}],\"parts\":{\"kind\":\"binary\",\
+        \"target\":2,\"operator\":\"+\",\"operands\":[{\"variable\":0},{\"variable\":1}]},\"start\":54,\"end\":63,\"avail\":{\"path\":true,\
+        \"came\":[],\
         \"went\":[],\"behind\":{\"came\":[0],\"went\":[]}},\"busy\":{\"path\":true,\"came\":[],\"went\":[],\"behind\":{\"came\":[],\
         \"went\":[]}}}\n\
         {\"type\":\"point\",\"point\":6,\"procedure\":\"f\",\"place\":2,\"line\":10,\"first\":68,\"last\":76,\"labels\":[\"L\"],\
-        \"statement\":\"y = a + b\",\"doubtful\":false,\"edges\":[{\"kind\":\"step\",\"to\":7}],\"avail\":{\"path\":true,\"came\":[],\
+        \"statement\":\"y = a + b\",\"doubtful\":false,\"edges\":[{\"kind\":\"step\",\"to\":7}],\"parts\":{\"kind\":\"binary\",\
+        \"target\":3,\"operator\":\"+\",\"operands\":[{\"variable\":0},{\"variable\":1}]},\"start\":67,\"end\":76,\"avail\":{\"path\":true,\
+        \"came\":[],\
         \"went\":[],\"behind\":{\"came\":[0],\"went\":[]}},\"busy\":{\"path\":true,\"came\":[],\"went\":[],\"behind\":{\"came\":[],\
         \"went\":[0]}}}\n\
         {\"type\":\"point\",\"point\":7,\"procedure\":\"f\",\"place\":3,\"line\":null,\"first\":null,\"last\":null,\"labels\":[],\
-        \"statement\":null,\"doubtful\":false,\"edges\":[{\"kind\":\"return\",\"site\":2,\"to\":3}],\"avail\":{\"path\":true,\
+        \"statement\":null,\"doubtful\":false,\"edges\":[{\"kind\":\"return\",\"site\":2,\"to\":3}],\"parts\":null,\"start\":null,\
+        \"end\":null,\"avail\":{\"path\":true,\
         \"came\":[0],\"went\":[],\"behind\":null},\"busy\":{\"path\":true,\"came\":[],\"went\":[0],\"behind\":null}}\n\
         {\"type\":\"remark\",\"point\":4,\"line\":7,\"first\":43,\"last\":53,\"kind\":\"busy\",\"expressions\":[0]}\n\
         {\"type\":\"remark\",\"point\":5,\"line\":8,\"first\":55,\"last\":63,\"kind\":\"dead\",\"variable\":\"x\"}\n\
@@ -107,18 +119,25 @@ const ENDS: &[(&str, Queried<'static>, &str)] = &[
         REACH_OF_MAIN,
         "{\"type\":\"program\",\"version\":1,\"points\":8,\"procedures\":[\"main\",\"f\"],\"variables\":[\"a\",\"b\",\"x\",\"y\"],\
         \"definitions\":8,\"expressions\":1,\"definition_names\":[\"a@entry\",\"b@entry\",\"x@entry\",\"y@entry\",\"a@2\",\"b@3\",\
-        \"x@8\",\"y@10\"],\"expression_names\":[\"a + b\"]}\n\
+        \"x@8\",\"y@10\"],\"expression_names\":[\"a + b\"],\"definition_parts\":[{\"variable\":0,\"point\":null},\
+        {\"variable\":1,\"point\":null},{\"variable\":2,\"point\":null},{\"variable\":3,\"point\":null},\
+        {\"variable\":0,\"point\":0},{\"variable\":1,\"point\":1},{\"variable\":2,\"point\":5},{\"variable\":3,\"point\":6}],\
+        \"expression_parts\":[{\"operator\":\"+\",\"operands\":[{\"variable\":0},{\"variable\":1}]}]}\n\
         {\"type\":\"point\",\"point\":0,\"procedure\":\"main\",\"place\":0,\"line\":2,\"first\":11,\"last\":16,\"labels\":[],\
-        \"statement\":\"read a\",\"doubtful\":false,\"edges\":[{\"kind\":\"step\",\"to\":1}],\"reach\":{\"path\":true,\"came\":[0,1,\
+        \"statement\":\"read a\",\"doubtful\":false,\"edges\":[{\"kind\":\"step\",\"to\":1}],\"parts\":{\"kind\":\"read\",\
+        \"target\":0},\"start\":10,\"end\":16,\"reach\":{\"path\":true,\"came\":[0,1,\
         2,3],\"went\":[],\"behind\":{\"came\":[4],\"went\":[0]}}}\n\
         {\"type\":\"point\",\"point\":1,\"procedure\":\"main\",\"place\":1,\"line\":3,\"first\":18,\"last\":23,\"labels\":[],\
-        \"statement\":\"read b\",\"doubtful\":false,\"edges\":[{\"kind\":\"step\",\"to\":2}],\"reach\":{\"path\":true,\"came\":[4],\
+        \"statement\":\"read b\",\"doubtful\":false,\"edges\":[{\"kind\":\"step\",\"to\":2}],\"parts\":{\"kind\":\"read\",\
+        \"target\":1},\"start\":17,\"end\":23,\"reach\":{\"path\":true,\"came\":[4],\
         \"went\":[0],\"behind\":{\"came\":[5],\"went\":[1]}}}\n\
         {\"type\":\"point\",\"point\":2,\"procedure\":\"main\",\"place\":2,\"line\":4,\"first\":25,\"last\":30,\"labels\":[],\
-        \"statement\":\"call f\",\"doubtful\":false,\"edges\":[{\"kind\":\"call\",\"site\":2,\"to\":4}],\"reach\":{\"path\":true,\
+        \"statement\":\"call f\",\"doubtful\":false,\"edges\":[{\"kind\":\"call\",\"site\":2,\"to\":4}],\"parts\":{\"kind\":\"call\",\
+        \"callees\":[1]},\"start\":24,\"end\":30,\"reach\":{\"path\":true,\
         \"came\":[5],\"went\":[1],\"behind\":null}}\n\
         {\"type\":\"point\",\"point\":3,\"procedure\":\"main\",\"place\":3,\"line\":null,\"first\":null,\"last\":null,\"labels\":[],\
-        \"statement\":null,\"doubtful\":false,\"edges\":[],\"reach\":{\"path\":true,\"came\":[6,7],\"went\":[3],\"behind\":null}}\n\
+        \"statement\":null,\"doubtful\":false,\"edges\":[],\"parts\":null,\"start\":null,\"end\":null,\"reach\":{\"path\":true,\"came\":[6,\
+        7],\"went\":[3],\"behind\":null}}\n\
         {\"type\":\"end\",\"points\":4}\n",
     ),
     // Without facts each remark has a line of its own.

@@ -18,3 +18,5 @@ mod progress_tests;
 mod refusal_tests;
 #[cfg(test)]
 mod tacview_tests;
+#[cfg(test)]
+mod word_tests;

@@ -1,4 +1,4 @@
-// Parts of a report by hand, and what comes of files with them.
+// Parts of a report and of lines of JSON by hand, and what comes of files with them.
 
 use crate::tacview_tests::{NONE, PLAIN, run_to_page};
 use part_texts::Share;
@@ -32,9 +32,10 @@ const REPORT: &str =
 const OTHER: &str = "part 2 of 2 of 58ed5d13b50c8c0a1a6ee0bb4b9af4a59f67e1a1\n\
     points 14, variables 6, definitions 13, expressions 2\n11: assignment to x is dead\nend 2\n";
 
-// What asks for a part. None where it is out of range.
+// What asks for a part in this format. None where it is out of range.
 pub(crate) fn options_of(
     alloc: Global,
+    format: Format,
     part: u32,
     count: u32,
     team: (u32, u32),
@@ -47,14 +48,7 @@ pub(crate) fn options_of(
         title: None,
         look: PLAIN,
     };
-    Options::new(
-        team.0,
-        team.1,
-        Limits::Standard,
-        Format::Report,
-        NONE,
-        asked,
-    )
+    Options::new(team.0, team.1, Limits::Standard, format, NONE, asked)
 }
 
 pub(crate) const PARTS: &[(u32, u32, &str)] = &[(1, 2, ONE), (2, 2, TWO), (1, 1, WHOLE)];
@@ -67,10 +61,81 @@ fn check_part<R: Threads + Sync + Abort + AllocGlobal>(
     team: (u32, u32),
     wanted: &str,
 ) -> Result<(), Fail> {
-    let options = options_of(rt.alloc(), part, count, team).ok_or("a part")?;
+    let options = options_of(rt.alloc(), Format::Report, part, count, team).ok_or("a part")?;
     let mut page = blank_page(rt.alloc());
     run_to_page(rt, remarks::TEXT.as_bytes(), &mut page, &options)?;
     assert_eq!(rt; page.taken.as_slice(), wanted.as_bytes());
+    Ok(())
+}
+
+// A program of four points, of which one is never reached. It has one group of variables and one of expressions.
+pub(crate) const FOUR_POINTS: &str = "proc main\n  x = x + y\n  return\n  print x\nend\n";
+
+// The digest is that of `sha1sum`.
+const JSON_ONE: &str =
+    "{\"type\":\"part\",\"version\":1,\"part\":1,\"parts\":2,\"digest\":\"a1a373ead17c8d335c9cf26310730ec42201b3b1\"}\n\
+    {\"type\":\"program\",\"version\":1,\"points\":4,\"procedures\":[\"main\"],\"variables\":[\"x\",\"y\"],\"definitions\":3,\"expressions\":1}\n\
+    {\"type\":\"point\",\"point\":0,\"procedure\":\"main\",\"place\":0,\"line\":2,\"first\":13,\"last\":21,\"labels\":[],\
+    \"statement\":\"x = x + y\",\"doubtful\":false,\"edges\":[{\"kind\":\"step\",\"to\":1}]}\n\
+    {\"type\":\"point\",\"point\":1,\"procedure\":\"main\",\"place\":1,\"line\":3,\"first\":25,\"last\":30,\"labels\":[],\
+    \"statement\":\"return\",\"doubtful\":false,\"edges\":[{\"kind\":\"step\",\"to\":3}]}\n\
+    {\"type\":\"point\",\"point\":2,\"procedure\":\"main\",\"place\":2,\"line\":4,\"first\":34,\"last\":40,\"labels\":[],\
+    \"statement\":\"print x\",\"doubtful\":false,\"edges\":[{\"kind\":\"step\",\"to\":3}]}\n\
+    {\"type\":\"point\",\"point\":3,\"procedure\":\"main\",\"place\":3,\"line\":null,\"first\":null,\"last\":null,\"labels\":[],\
+    \"statement\":null,\"doubtful\":false,\"edges\":[]}\n\
+    {\"type\":\"remark\",\"point\":2,\"line\":4,\"first\":34,\"last\":40,\"kind\":\"never_reached\"}\n\
+    {\"type\":\"end\",\"points\":4}\n{\"type\":\"end-part\",\"part\":1}\n";
+
+const JSON_TWO: &str =
+    "{\"type\":\"part\",\"version\":1,\"part\":2,\"parts\":2,\"digest\":\"a1a373ead17c8d335c9cf26310730ec42201b3b1\"}\n\
+    {\"type\":\"program\",\"version\":1,\"points\":4,\"procedures\":[\"main\"],\"variables\":[\"x\",\"y\"],\"definitions\":3,\"expressions\":1}\n\
+    {\"type\":\"remark\",\"point\":0,\"line\":2,\"first\":13,\"last\":21,\"kind\":\"unset\",\"variable\":\"x\"}\n\
+    {\"type\":\"remark\",\"point\":0,\"line\":2,\"first\":13,\"last\":21,\"kind\":\"unset\",\"variable\":\"y\"}\n\
+    {\"type\":\"remark\",\"point\":0,\"line\":2,\"first\":13,\"last\":21,\"kind\":\"dead\",\"variable\":\"x\"}\n\
+    {\"type\":\"end-part\",\"part\":2}\n";
+
+pub(crate) const JSON_PARTS: &[(u32, u32, &str)] = &[(1, 2, JSON_ONE), (2, 2, JSON_TWO)];
+
+// What the program writes by these options.
+fn written<R: Threads + Sync + Abort + AllocGlobal>(
+    rt: &R,
+    options: &Options,
+) -> Result<Vec<u8>, Fail> {
+    let mut page = blank_page(rt.alloc());
+    run_to_page(rt, FOUR_POINTS.as_bytes(), &mut page, options)?;
+    Ok(page.taken)
+}
+
+#[test]
+fn parts_of_json(rt: HostRuntime) -> Result<(), Fail> {
+    for (part, count, wanted) in JSON_PARTS {
+        for team in TEAMS {
+            let options = options_of(rt.alloc(), Format::Json, *part, *count, *team).ok_or(
+                "a part",
+            )?;
+            assert_eq!(rt; written(&rt, &options)?.as_slice(), wanted.as_bytes());
+        }
+    }
+    Ok(())
+}
+
+// The parts of JSON make the lines that are written whole.
+#[test]
+fn parts_of_json_are_it(rt: HostRuntime) -> Result<(), Fail> {
+    let asked = Asked {
+        procedure: None,
+        because: None,
+        share: None,
+        title: None,
+        look: PLAIN,
+    };
+    let whole = Options::new(1, 64, Limits::Standard, Format::Json, NONE, asked).ok_or("options")?;
+    let lines = written(&rt, &whole)?;
+    let texts: [&[u8]; 2] = [JSON_TWO.as_bytes(), JSON_ONE.as_bytes()];
+    match merge_files(rt.alloc(), NAMES, &texts)? {
+        Ok(text) => assert_eq!(rt; text.as_slice(), lines.as_slice()),
+        Err(_) => return Err(Fail::from("a line")),
+    }
     Ok(())
 }
 
@@ -114,6 +179,17 @@ const MERGES: &[(&[&str], bool, &str)] = &[
         false,
         "tacview: two\\x0a: is a part of another program's report\n",
     ),
+    (
+        &[JSON_TWO, JSON_ONE, ONE],
+        false,
+        "tacview: three: is a part in another form than the first\n",
+    ),
+    (
+        &[ONE, JSON_TWO],
+        false,
+        "tacview: two\\x0a: is a part in another form than the first\n",
+    ),
+    (&[JSON_ONE], false, "tacview: no file is part 2\n"),
     (
         &[ONE, WHOLE],
         false,

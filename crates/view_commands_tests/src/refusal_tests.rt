@@ -1,6 +1,6 @@
 // Runs of `tacview` where memory is refused, as `test_support` has it.
 
-use crate::part_tests::{PARTS, options_of};
+use crate::part_tests::{FOUR_POINTS, JSON_PARTS, PARTS, options_of};
 use crate::tacview_tests::{
     F_GRAPH, GRAPH, GRAPH_OF_F, LINES, Queried, REPORT, SMALL_GRAPH, SMALL_LINES, options,
     run_to_page,
@@ -12,7 +12,7 @@ use std::thread::Threads;
 use test_support::all_or_nothing;
 use test_support::failing_streams::blank_page;
 use test_support::worked_programs::{TEAMS, call_between, recursion, remarks, small};
-use view_words::Options;
+use view_words::{Format, Options};
 
 // The answer to a text.
 fn check_view<R: Threads + Sync + Abort + AllocGlobal>(
@@ -57,8 +57,20 @@ fn run_is_refused(rt: HostRuntime) -> Result<(), Fail> {
 fn part_is_refused(rt: HostRuntime) -> Result<(), Fail> {
     for (part, count, answer) in PARTS {
         for team in TEAMS {
-            if let Some(options) = options_of(rt.alloc(), *part, *count, *team) {
+            if let Some(options) = options_of(rt.alloc(), Format::Report, *part, *count, *team) {
                 check_view(&rt, remarks::TEXT, &options, answer)?;
+            }
+        }
+    }
+    Ok(())
+}
+
+#[test]
+fn part_of_json_is_refused(rt: HostRuntime) -> Result<(), Fail> {
+    for (part, count, answer) in JSON_PARTS {
+        for team in TEAMS {
+            if let Some(options) = options_of(rt.alloc(), Format::Json, *part, *count, *team) {
+                check_view(&rt, FOUR_POINTS, &options, answer)?;
             }
         }
     }

@@ -1,6 +1,6 @@
 -- The command line, and the options that its words name.
 use Rattle.std.specs.Prelude.{◌≡◌, ℕ, List, [], ◌∷◌, Bool, Option, None, Some, Result, IfOk, IfErr, codes, true, is_some, option_and_then, option_map}
-use Rattle.std.specs.Prelude.{◌&&◌, ◌||◌, false}
+use Rattle.std.specs.Prelude.{◌&&◌, ◌||◌, bytes_eq, false, not}
 use Rattle.std.specs.Borrow.{Bor}
 use Rattle.std.specs.Option.{option_map_or}
 use Rattle.std.specs.String.{string_bytes}
@@ -57,9 +57,11 @@ look_queried rows = record {
   behind = has_flag (codes "facts-behind") rows;
   hovers = has_flag (codes "facts-on-hover") rows;
   legend = has_flag (codes "legend") rows;
+  changes = has_changes rows;
 }
 
--- Whether something is asked for that pictures alone have: a path that is marked, or a look of their own.
+-- Whether something is asked for that pictures alone have: a path that is marked, or a look of their own. Differences are none, as lines of JSON have
+-- them too.
 abbrev pub has_look : Look → Bool
 has_look look = look.hides_entry || look.behind || look.hovers || look.legend
 
@@ -69,6 +71,11 @@ has_picture rows = is_some (first_of (codes "because") rows) || has_look (look_q
 -- Whether a part is asked for.
 abbrev pub has_part : List Row → Bool
 has_part rows = is_some (first_of (codes "part") rows)
+
+-- Whether all procedures are asked for, and no facts by that word.
+abbrev pub is_bare : List Row → Bool
+is_bare rows =
+    option_map_or (λ list. bytes_eq list (codes "none")) (first_of (codes "facts") rows) false && not (is_some (first_of (codes "procedure") rows))
 
 -- Whether a title is asked for.
 abbrev pub has_title : List Row → Bool
@@ -86,7 +93,7 @@ shown_format rows = option_and_then (with_picture (has_picture rows)) (lines_for
 
 -- The same, whole or a part of it; None where it has none.
 abbrev pub part_format : List Row → Option Format
-part_format rows = option_and_then (with_part (has_part rows)) (shown_format rows)
+part_format rows = option_and_then (with_part (has_part rows) (is_bare rows)) (shown_format rows)
 
 -- The format that is asked for, with a title or without; None where it has none.
 abbrev pub format_queried : List Row → Option Format

@@ -27,10 +27,11 @@ with_paths true format.Report = None
 with_paths true format.Html = Some format.HtmlPaths
 with_paths true format.HtmlPaths = Some format.HtmlPaths
 
--- The format with differences in place of sets, where they are asked for: only lines of JSON without paths have them.
+-- The format with differences in place of sets, where they are asked for: only lines of JSON without paths have them, and pictures, whose look says
+-- so.
 abbrev pub with_changes : Bool → Format → Option Format
 with_changes false format = Some format
-with_changes true format.Dot = None
+with_changes true format.Dot = Some format.Dot
 with_changes true format.Json = Some format.JsonChanges
 with_changes true format.JsonPaths = None
 with_changes true format.JsonChanges = Some format.JsonChanges
@@ -49,16 +50,16 @@ with_picture true format.Report = None
 with_picture true format.Html = None
 with_picture true format.HtmlPaths = None
 
--- The format, where it fits to what is asked for: a report alone has parts.
-abbrev pub with_part : Bool → Format → Option Format
-with_part false format = Some format
-with_part true format.Dot = None
-with_part true format.Json = None
-with_part true format.JsonPaths = None
-with_part true format.JsonChanges = None
-with_part true format.Report = Some format.Report
-with_part true format.Html = None
-with_part true format.HtmlPaths = None
+-- The format, where it fits to what is asked for: a report has parts, and so have lines of JSON of all procedures without facts.
+abbrev pub with_part : (is bare : Bool) → Format → Option Format
+with_part false bare format = Some format
+with_part true bare format.Dot = None
+with_part true bare format.Json = if bare then Some format.Json else None
+with_part true bare format.JsonPaths = None
+with_part true bare format.JsonChanges = None
+with_part true bare format.Report = Some format.Report
+with_part true bare format.Html = None
+with_part true bare format.HtmlPaths = None
 
 -- The format, where it fits to what is asked for: a page alone has a title.
 abbrev pub with_title : Bool → Format → Option Format

@@ -13,7 +13,7 @@ use tac_program::Limits;
 pub enum Format {
     /// A graph for Graphviz.
     Dot,
-    /// Lines of JSON.
+    /// Lines of JSON, or a part of those without facts.
     Json,
     /// Lines of JSON, with a path for each variable that may be used before it is set.
     JsonPaths,
@@ -34,7 +34,8 @@ pub struct Asked {
     pub procedure: Option<String>,
     /// The place of the use whose path a picture marks, `LINE` or `LINE:NAME`; without it none is. Other texts are the same for all of these.
     pub because: Option<String>,
-    /// The part of a report that is written; without it the whole report is. Other texts are the same for all of these.
+    /// The part that is written, of a report or of lines of JSON, which then are of all procedures and without facts; without it the whole is.
+    /// Other texts are the same for all of these.
     pub share: Option<Share>,
     /// The title of a page; without it the page has none. Other texts are the same for all of these.
     pub title: Option<String>,

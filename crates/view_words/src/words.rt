@@ -1,12 +1,13 @@
 // The program's words, read by `clap`.
 
-ghost use Rattle.std.specs.Prelude.{◌≡◌, ◌&&◌, Some, false, map, codes, is_some, IfOk, IfSome, option_and_then, option_map};
+ghost use Rattle.std.specs.Prelude.{◌≡◌, ◌&&◌, Some, bytes_eq, false, map, codes, is_some, IfOk, IfSome, option_and_then, option_map};
+ghost use Rattle.std.specs.Option.{option_map_or};
 ghost use Rattle.std.specs.String.{string_bytes};
 ghost use Rattle.clap.specs.Words.{FailsBy, app_of, first_of, found_of, rows_of, rule_of};
 ghost use Rattle.flow_runs.specs.Words.{AreKindsOf, flag_rule, has_flag, kind_rule, text_rule};
 ghost use Rattle.flow_runs.specs.code.Matches.{HoldsKind};
 ghost use Rattle.part_texts.specs.Shares.{some_share};
-ghost use Rattle.view_words.specs.Commands.{AnswersWords, NamesOptions, format_queried, has_look, has_part};
+ghost use Rattle.view_words.specs.Commands.{AnswersWords, NamesOptions, format_queried, has_look, has_part, is_bare};
 ghost use Rattle.view_words.specs.Commands.{has_paths, has_picture, has_title, lines_format};
 ghost use Rattle.view_words.specs.Commands.{knows_facts, look_command, look_queried};
 ghost use Rattle.view_words.specs.Commands.{form_command, known_share, knows_share, option_kinds, part_command, picture_command, part_format, shown_format};
@@ -32,7 +33,7 @@ const ABOUT: &str =
     report on it, or a page around it.";
 
 const AFTER_HELP: &str =
-    "As the first word:\n      --merge FILE ..  Write the report that the files make, which are its parts\n\nIn a picture:\n  \
+    "As the first word:\n      --merge FILE ..  Write the report, or the lines of JSON, that the files make, which are its parts\n\nIn a picture:\n  \
     grey          no valid path leads there\n  \
     red           a variable may be used before it is set\n  \
     yellow        the assignment is dead\n  \
@@ -44,6 +45,7 @@ const AFTER_HELP: &str =
     tacview --facts reach --hide-entry --facts-behind < program.tac | dot -Tsvg > sets.svg\n  \
     tacview --because 12:x < program.tac | dot -Tsvg > path.svg\n  \
     tacview --format json --facts none --paths < program.tac\n  \
+    tacview --facts reach --changes < program.tac | dot -Tsvg > changes.svg\n  \
     tacview --format json --changes < program.tac\n  \
     tacview --format html --paths --title program.tac < program.tac > program.html\n  \
     tacview --format report --limits large < program.tac\n  \
@@ -58,8 +60,9 @@ const NO_VALUE: &str =
     the number of a part, from 1 on, a slash, and of how many parts, at most 4096";
 
 const NO_FORMAT: &str =
-    "'--paths' goes with '--format json' or 'html', '--changes' with '--format json' and not with '--paths', '--because', '--hide-entry', \
-    '--facts-behind', '--facts-on-hover' and '--legend' with '--format dot', '--part' with '--format report', and '--title' with '--format html'";
+    "'--paths' goes with '--format json' or 'html', '--changes' with '--format dot', or 'json' without '--paths', '--because', '--hide-entry', \
+    '--facts-behind', '--facts-on-hover' and '--legend' with '--format dot', '--part' with '--format report', or with '--format json', \
+    '--facts none' and no '--procedure', and '--title' with '--format html'";
 
 fn format_of(word: &str) -> Option<Format>
     ensures { result ≡ format_named word.now }
@@ -183,9 +186,7 @@ fn changes_option<'a>(alloc: Global) -> Arg<'a>
     Arg::new(alloc, "changes")
         .long("changes")
         .action(ArgAction::SetTrue)
-        .help(
-            "With --format json: what changes from point to point, by number, in place of each set",
-        )
+        .help("With --format dot or json: what changes from point to point in place of each set")
 }
 
 fn because_option<'a>(alloc: Global) -> Arg<'a>
@@ -210,7 +211,8 @@ fn part_option<'a>(alloc: Global) -> Arg<'a>
         .value_name("K/N")
         .action(ArgAction::Set)
         .help(
-            "With --format report: part K of N alone, of 4096 at most; 'tacview --merge FILE ..' makes the report of all of them",
+            "With --format report, or --format json --facts none: part K of N alone, of 4096 at most; 'tacview --merge FILE ..' makes the whole of all \
+            of them",
         )
 }
 
@@ -336,7 +338,7 @@ fn with_changes(is: bool, format: Format) -> Option<Format>
         return Some(format);
     }
     match format {
-        Format::Dot => None,
+        Format::Dot => Some(Format::Dot),
         Format::Json => Some(Format::JsonChanges),
         Format::JsonPaths => None,
         Format::JsonChanges => Some(Format::JsonChanges),
@@ -355,6 +357,7 @@ fn look_found(matches: &ArgMatches<'_>) -> Look
         behind: has_flag(matches, "facts-behind"),
         hovers: has_flag(matches, "facts-on-hover"),
         legend: has_flag(matches, "legend"),
+        changes: has_flag(matches, "changes"),
     }
 }
 
@@ -412,16 +415,36 @@ fn has_part(matches: &ArgMatches<'_>) -> bool
     }
 }
 
+// Whether no facts were asked for, by that word.
+fn has_no_facts(matches: &ArgMatches<'_>) -> bool
+    ensures { result ≡ option_map_or (λ list. bytes_eq list (codes "none")) (first_of (codes "facts") (rows_of (found_of matches.now))) false }
+{
+    match matches.get_str("facts") {
+        Some(list) => list == "none",
+        None => false,
+    }
+}
+
+// Whether all procedures were asked for, and no facts.
+fn is_bare(matches: &ArgMatches<'_>) -> bool
+    ensures { result ≡ is_bare (rows_of (found_of matches.now)) }
+{
+    match matches.get_str("procedure") {
+        Some(_) => false,
+        None => has_no_facts(matches),
+    }
+}
+
 // The format, where it fits to that. None where it has no parts.
-fn with_part(is: bool, format: Format) -> Option<Format>
-    ensures { result ≡ with_part is format }
+fn with_part(is: bool, bare: bool, format: Format) -> Option<Format>
+    ensures { result ≡ with_part is bare format }
 {
     if !is {
         return Some(format);
     }
     match format {
         Format::Dot => None,
-        Format::Json => None,
+        Format::Json => { if bare { Some(Format::Json) } else { None } },
         Format::JsonPaths => None,
         Format::JsonChanges => None,
         Format::Report => Some(Format::Report),
@@ -458,7 +481,7 @@ fn part_format(matches: &ArgMatches<'_>) -> Option<Format>
     ensures { result ≡ part_format (rows_of (found_of matches.now)) }
 {
     match shown_format(matches) {
-        Some(format) => with_part(has_part(matches), format),
+        Some(format) => with_part(has_part(matches), is_bare(matches), format),
         None => None,
     }
 }
@@ -606,8 +629,9 @@ impl Options {
     ///
     /// Refuses words that the command does not take, a number outside its range, a word that is no format or no limits, a list that names
     /// no facts and words that name no part among them, and a call for help; what a format does not have: paths with others than `json` and
-    /// `html`, differences with another than `json` or with paths, a path that is marked or a look with another than `dot`, a part with
-    /// another than `report`, a title with another than `html`; or memory was refused.
+    /// `html`, differences with others than `dot` and `json` or with paths, a path that is marked or a look with another than `dot`, a part
+    /// with another than `report`, but for `json` of all procedures with `--facts none`, a title with another than `html`; or memory was
+    /// refused.
     pub fn from_words<'a>(alloc: Global, words: &'a [&'a str]) -> Result<Options, Error>
         ensures { AnswersWords (map (λ w. w.now) words.entry.now) result }
     {

@@ -36,3 +36,10 @@ returns-clause-known c =
     sym (queried_known c.args.format (first_of (codes "facts") rows)) ∙ sym (ap is_some c.facts_found.ensures) ∙ ap is_some c.in-Some.is in
     let share : knows_share rows ≡ true = sym (ap is_some c.share_found.ensures) ∙ ap is_some (ap (option_map some_share) c.in-Some-share_found.is) in
     made ∙ sym (ap₂ (λ a b. a && b) facts share)
+
+pub returns-in_default-clause-known : goal.returns-in_default-clause-known
+returns-in_default-clause-known c =
+    let rows = rows_of (found_of c.args.matches.now) in
+    let facts : knows_facts rows ≡ false =
+    sym (queried_known c.args.format (first_of (codes "facts") rows)) ∙ sym (ap is_some c.facts_found.ensures) ∙ ap is_some c.in_default.is in
+    sym (ap (λ a. a && knows_share rows) facts)
