@@ -1,12 +1,11 @@
 use Rattle.std.proofs.Common.{◌≡◌, ℕ, ◌+◌, ◌≤◌, Bool, true, false, List, [], ◌∷◌, ◌++◌, length, map, flat_map, codes, refl, sym, ap, ap₂, ◌∙◌, arith}
 use Rattle.std.proofs.lemmas.List.{length-append}
-use Rattle.tac_program.specs.Programs.{Program}
 use Rattle.flow_graph.specs.declared.analysis.Analysis.{Analysis}
 use Rattle.flow_graph.specs.declared.analysis.Analysis.TheVariants.{Reach, Live, Avail, Busy}
 use Rattle.flow_views.specs.Dots.{changed_names, label_line}
 use Rattle.flow_views.specs.Views.{analysis_name}
 use Rattle.point_sets.specs.Changes.{came_text}
-use Rattle.point_sets.specs.SetLines.{columns, lines_if_any, width}
+use Rattle.point_sets.specs.SetLines.{lines_if_any, width}
 use Rattle.point_sets.specs.Sets.{side_text}
 use Rattle.point_sets.specs.code.Changes.{old_set, told_by}
 use Rattle.point_sets.specs.code.Lines.{blank_line, names_on}

@@ -1,4 +1,4 @@
-use Rattle.std.proofs.Common.{◌≡◌, ℕ, Bool, true, false, List, ◌++◌, flat_map, sym, ap, ap₂, ◌∙◌}
+use Rattle.std.proofs.Common.{ℕ, Bool, true, false, List, flat_map, sym, ap, ap₂, ◌∙◌}
 use Rattle.std.proofs.lemmas.Grind.{flat_map-append}
 use Rattle.flow_graph.specs.declared.analysis.Analysis.{Analysis}
 use Rattle.flow_team.specs.Tables.{Facts, TableFacts}
@@ -6,8 +6,6 @@ use Rattle.flow_views.specs.Dots.{both_changed, changed_lines, label_line}
 use Rattle.flow_views.specs.Views.{known_facts}
 use Rattle.flow_views.specs.code.ViewProgram.{known_of}
 use Rattle.flow_views.specs.declared.view.View.{View}
-use Rattle.point_sets.specs.Changes.{set_against}
-use Rattle.point_sets.specs.Sets.{set_on}
 use Rattle.point_sets.specs.code.Changes.{old_set, told_by}
 use Rattle.point_sets.specs.declared.change.Change.{Change}
 use Rattle.tac_program.specs.Programs.{Program}

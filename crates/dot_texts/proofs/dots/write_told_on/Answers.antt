@@ -1,4 +1,4 @@
-use Rattle.std.proofs.Common.{◌≡◌, ℕ, Bool, List, flat_map, if◌then◌else◌, sym, ap}
+use Rattle.std.proofs.Common.{ℕ, Bool, List, flat_map, if◌then◌else◌, sym, ap}
 use Rattle.flow_graph.specs.declared.analysis.Analysis.{Analysis}
 use Rattle.flow_reports.specs.Reports.{Knowledge}
 use Rattle.flow_views.specs.Dots.{changes_on, label_line, lines_on}

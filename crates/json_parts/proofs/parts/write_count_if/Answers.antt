@@ -1,4 +1,4 @@
-use Rattle.std.proofs.Common.{List, ℕ, Bool, [], ap, sym, if◌then◌else◌}
+use Rattle.std.proofs.Common.{Bool, [], ap, sym, if◌then◌else◌}
 use Rattle.std.proofs.lemmas.Bool.{eq-eqb}
 use Rattle.json_parts.specs.JsonParts.{count_object}
 use Rattle.text_pieces.proofs.sinks.Taking.{takes_as}

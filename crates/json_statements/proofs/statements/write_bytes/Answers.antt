@@ -1,4 +1,4 @@
-use Rattle.std.proofs.Common.{◌≡◌, ◌++◌, ℕ, Option, Some, None, codes, decimal, ap, sym}
+use Rattle.std.proofs.Common.{◌≡◌, ◌++◌, ℕ, Some, None, codes, decimal, ap, sym}
 use Rattle.flow_graph.specs.Points.{statement_at}
 use Rattle.json_statements.specs.Parts.{bytes_at}
 use Rattle.tac_program.specs.Programs.{Program}

@@ -1,4 +1,4 @@
-use Rattle.std.proofs.Common.{ℕ, Bool, ap}
+use Rattle.std.proofs.Common.{ap}
 use Rattle.flow_graph.specs.declared.analysis.Analysis.{Analysis}
 use Rattle.flow_team.specs.Tables.{Facts, TableFacts}
 use Rattle.flow_views.specs.Views.{known_facts}

@@ -1,5 +1,4 @@
-use Rattle.std.proofs.Common.{◌≡◌, ◌∙◌, ℕ, ◌-◌, Bool, if◌then◌else◌, nat_eq, ap}
-use Rattle.flow_graph.specs.Points.{place_of}
+use Rattle.std.proofs.Common.{◌∙◌, ◌-◌, Bool, if◌then◌else◌, nat_eq, ap}
 use Rattle.flow_graph.specs.declared.analysis.Analysis.{Analysis}
 use Rattle.flow_graph.specs.declared.place.Place.{Place}
 use Rattle.flow_team.specs.Tables.{Facts}

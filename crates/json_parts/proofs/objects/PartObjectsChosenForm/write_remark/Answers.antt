@@ -1,4 +1,4 @@
-use Rattle.std.proofs.Common.{List, ℕ, Bool, [], ap, sym, ◌∙◌, if◌then◌else◌}
+use Rattle.std.proofs.Common.{Bool, [], ap, sym, ◌∙◌, if◌then◌else◌}
 use Rattle.flow_views.specs.Json.{remark_object}
 use Rattle.text_pieces.proofs.sinks.Taking.{takes_as}
 use Rattle.json_parts.proofs.objects.PartObjectsChosenForm.write_remark.Goals as goal

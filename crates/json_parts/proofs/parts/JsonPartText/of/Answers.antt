@@ -7,7 +7,7 @@ use Rattle.flow_reports.specs.code.Findings.{AreChosenFindings, TellDoubtful, kn
 use Rattle.flow_reports.specs.declared.findings.Findings.{Findings}
 use Rattle.flow_reports.proofs.knowledge.KnownReports.{agrees_on, all_of, all_of_is_known}
 use Rattle.flow_views.specs.Json.{program_line}
-use Rattle.json_parts.specs.JsonParts.{IsJsonPart, count_object, heading_object, in_first, json_part_of, last_object, point_lines, remark_objects}
+use Rattle.json_parts.specs.JsonParts.{IsJsonPart, count_object, heading_object, in_first, json_part_of, last_object, remark_objects}
 use Rattle.json_parts.proofs.PointLines.{same_lines}
 use Rattle.report_answers.specs.code.Reported.{Reported}
 use Rattle.tac_program.specs.Programs.{Program}
