@@ -11,8 +11,8 @@ const variablesIn = text => text.match(/[A-Za-z_]\w*/g) ?? [];
 
     @returns {Parts} */
 function partsOf(point) {
-  point.parts ??= readParts(point.statement ?? "");
-  return point.parts;
+  point.words ??= readParts(point.statement ?? "");
+  return point.words;
 }
 
 function readParts(statement) {

@@ -52,7 +52,7 @@ const SCRIPT_LINES: &str = r##"</script>
  * @property {Point[]} from  the points of its procedure from which control comes
  * @property {number} position  its number among the points that are shown, from 1
  * @property {number} row
- * @property {Parts} [parts]
+ * @property {Parts} [words]  what its statement sets, uses and computes, as it is written
  *
  * @typedef {object} Program
  * @property {{ points: number, procedures: string[], variables: string[], definitions: number, expressions: number,
