@@ -453,7 +453,7 @@ def parts_of(statement: str | None, program: Row) -> Row | None:
     return {"kind": kinds["operator" in value], "target": variables.index(words[0])} | value
 
 
-def check_parts(program: Row, points: list[Row]) -> None:
+def check_made_of(program: Row, points: list[Row]) -> None:
     """Statements, definitions and expressions are made of what their texts say."""
     variables, lines = program["variables"], {row["point"]: row["line"] for row in points}
     for row in points:
@@ -473,7 +473,7 @@ def check_changes(source: bytes) -> None:
     program, points, remarks = objects(source)
     named, differing, told = objects(source, "--changes")
     names = names_by_number(named)
-    check_parts(named, differing)
+    check_made_of(named, differing)
     assert {name: named[name] for name in program} == program, named
     held: dict[str, set[int]] = {}
     for point, wanted in zip(differing, points, strict=True):
