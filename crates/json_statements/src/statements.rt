@@ -3,7 +3,8 @@
 ghost use Rattle.std.specs.Prelude.{◌<◌, ◌++◌, [], ◌∷◌, codes, decimal, map};
 ghost use Rattle.flow_graph.specs.Points.{point_count};
 ghost use Rattle.flow_views.specs.Json.{array};
-ghost use Rattle.json_statements.specs.Parts.{bytes_at, callees_field, kind_field, operands_field, operator_field, parts_at, parts_fields, statement_parts, target_field};
+ghost use Rattle.json_statements.specs.Parts.{bytes_at, callees_field, kind_field, operands_field};
+ghost use Rattle.json_statements.specs.Parts.{operator_field, parts_at, parts_fields, statement_parts, target_field};
 ghost use Rattle.text_pieces.specs.Pieces.{CanWrite, Writes};
 
 use crate::operands::{write_decimal, write_operands, write_operator, write_target};
