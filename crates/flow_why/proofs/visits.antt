@@ -4,6 +4,5 @@ pub mod Links
 pub mod Listed
 pub mod Reasons
 pub mod Results
-pub mod Sites
 pub mod Statements
 pub mod Visiting

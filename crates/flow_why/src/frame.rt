@@ -4,9 +4,9 @@ ghost use Rattle.flow_graph.specs.declared.edge.Edge.TheVariants.{Step};
 ghost use Rattle.flow_graph.specs.Directions.{goes_backward};
 ghost use Rattle.flow_graph.specs.Paths.{IsEdge};
 ghost use Rattle.flow_graph.specs.Points.{point_count};
-ghost use Rattle.flow_links.specs.Shapes.{after_site, directed_shape};
+ghost use Rattle.flow_links.specs.Shapes.{after_site, call_site, directed_shape};
 ghost use Rattle.flow_why.specs.PointBits.{step_statement};
-ghost use Rattle.flow_why.specs.code.Frames.{IsFrame, call_after, call_site, effect_of, scope_of, step_begin, step_end, transfer_for};
+ghost use Rattle.flow_why.specs.code.Frames.{IsFrame, call_after, effect_of, scope_of, step_begin, step_end, transfer_for};
 ghost use Rattle.flow_why.specs.code.Marked.{BaseHas};
 
 use crate::claim::Claim;

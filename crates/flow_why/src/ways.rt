@@ -48,19 +48,13 @@ impl Drop for Ways {
 }
 
 // The frame of a search for where paths lead.
-fn bare_frame<'a, 'g, 'p>(
-    links: &'a Links,
-    problem: &Problem<'g, 'p>,
-    base: &'a Search,
-) -> Frame<'a, 'g, 'p>
-    requires linked { links.now ≡ direction_of problem.now }
-    requires bare { IsBare links.now base.now }
+fn bare_frame<'a, 'g, 'p>(links: &'a Links, base: &'a Search) -> Frame<'a, 'g, 'p>
+    requires { IsBare links.now base.now }
     ensures frame { IsFrame result }
     ensures question { question_of result ≡ base_question links.now }
 {
-    // Their contracts tell what a shape's edges are, and that the program is sound.
+    // Its contract tells what a shape's edges are.
     let _ = links.points();
-    let _ = problem.procedures();
     Frame {
         links,
         asked: Asked::Paths,
@@ -70,18 +64,11 @@ fn bare_frame<'a, 'g, 'p>(
 }
 
 // What is found of where paths lead.
-fn base_search(
-    alloc: Global,
-    links: &Links,
-    problem: &Problem<'_, '_>,
-) -> Result<Search, OutOfMemory>
-    requires { links.now ≡ direction_of problem.now }
+fn base_search(alloc: Global, links: &Links) -> Result<Search, OutOfMemory>
     ensures { IfOk result (λ search. AreWays (record { linked = links.now; found = search })) }
 {
-    // Its contract tells that the program is sound.
-    let _ = problem.procedures();
     let blank = Search::blank(alloc, links.points())?;
-    let frame = bare_frame(links, problem, &blank);
+    let frame = bare_frame(links, &blank);
     search_for(alloc, &frame)
 }
 
@@ -91,7 +78,7 @@ impl Ways {
         ensures { IfOk result (λ ways. ways.linked ≡ direction_of problem.now) }
     {
         let links = Links::of(alloc, problem)?;
-        let search = base_search(alloc, &links, problem)?;
+        let search = base_search(alloc, &links)?;
         Ok(Ways { links, search })
     }
 

@@ -23,6 +23,7 @@ use Rattle.flow_links.specs.Tables.EdgeLists.{AreEdges, key_of, keys_of}
 use Rattle.flow_links.specs.declared.list_kind.ListKind.{ListKind}
 use Rattle.flow_links.specs.declared.list_kind.ListKind.TheVariants.{Steps, Calls, Callers, Sites}
 use Rattle.flow_links.specs.Shapes.{directed_shape, IsNumbered}
+use Rattle.flow_links.proofs.shapes.Sites.{sites_in}
 
 -- the may form of each analysis has the shape of its direction
 pub may_shape_is_directed : (program : Program) (analysis : Analysis)
@@ -59,6 +60,7 @@ module _ (program : Program) (sound : IsSound program) where
     exit_in_range = λ procedure there. (end_in program procedure there).below;
     procedure_in_range = λ point below. (points_have_places program point below).procedure;
     edge_in_range = λ edge is_edge. let placed = edges_join_points program sound edge is_edge in (placed.source, placed.target);
+    one_site = sites_in program sound false;
     one_return = λ site x y z is_call.
         let law = calls_return_behind_sites program site x y z sound is_call in
         ((λ is_return. let e = law.0 is_return in omega (arith, e)), (λ same. law.1 (omega (arith, same))));
@@ -72,6 +74,7 @@ module _ (program : Program) (sound : IsSound program) where
     procedure_in_range = λ point below. (points_have_places program point below).procedure;
     edge_in_range = λ edge is_edge.
         turned_in_range program edge (edges_join_points program sound (reversed_edge edge) (edge_back (shape_of program) edge is_edge));
+    one_site = sites_in program sound true;
     one_return = λ site x y z is_call.
         let law = returns_have_calls_at_sites program site y x z sound (edge_back (shape_of program) (Call site x y) is_call) in
         let first : ℕ = entry_point program (procedure_at program y) in (

@@ -27,11 +27,10 @@ use Rattle.flow_why.proofs.trails.Collecting.{nothing_based}
 use Rattle.flow_why.proofs.visits.Growing.{has_family}
 use Rattle.flow_why.specs.declared.hop.Hop.{Hop}
 use Rattle.flow_why.proofs.unfoldings.Moving.{witness_of}
-use Rattle.flow_why.proofs.visits.Sites.{sites_of}
 
-pub sited : (linked : LinkedProgram) → IsSound linked.program → point_count linked.program ≤ 1048576
+pub sited : (linked : LinkedProgram) → point_count linked.program ≤ 1048576
     → IsNumbered (directed_shape linked) linked.backward (point_count linked.program) → IsSited linked
-sited linked sound few numbered = record { few = few; numbered = numbered; sites = sites_of linked sound }
+sited linked few numbered = record { few = few; numbered = numbered }
 
 blank_points : (points : ℕ) (c : Claim) → (marks_of (nothing_found points) c).points ≡ points
 blank_points points claim.Holds = refl
@@ -60,7 +59,6 @@ bare_frame frame none whole is blank =
       asked = subst (IsAskedOf frame.links.now) (sym none) tt;
       few = is.few;
       numbered = is.numbered;
-      sites = is.sites;
       base = λ c. subst (λ f. (marks_of f c).points ≡ points) (sym blank) (blank_points points c);
       flags = λ x has. absurd (nothing_based points claim.Holds x (subst (λ f. BaseHas f claim.Holds x) blank has));
       reaches = λ x has. absurd (nothing_based points claim.Generated x (subst (λ f. BaseHas f claim.Generated x) blank has));
@@ -131,7 +129,6 @@ asked_frame ways frame are links base asked has kept =
         asked = asked;
         few = sited.few;
         numbered = sited.numbered;
-        sites = sited.sites;
         base = λ c. (marks.each c).points;
         flags = ground.flags;
         reaches = ground.reaches;

@@ -6,13 +6,13 @@ use Rattle.flow_graph.specs.declared.edge.Edge.TheVariants.{Step, Call, Ret}
 use Rattle.flow_graph.specs.Paths.{Shape, Transfer, IsEdge, root}
 use Rattle.flow_graph.specs.Points.{point_count}
 use Rattle.flow_graph.specs.WellFormed.{IsWellFormed}
-use Rattle.flow_links.specs.Shapes.{after_site}
+use Rattle.flow_links.specs.Shapes.{after_site, call_site}
 use Rattle.flow_why.specs.PointBits.{step_statement}
 use Rattle.summary_equations.specs.Equations.{CallsAt, ReturnsTo, Preserved, Generated, preserved_at_entry}
 use Rattle.summary_equations.proofs.paths.Sound.{generated_path, preserved_path}
 use Rattle.flow_why.specs.Witnesses.{HasEffect, IsThrough}
 use Rattle.flow_why.specs.code.Found.{Found, Has}
-use Rattle.flow_why.specs.code.Frames.{IsFrame, call_after, call_site, effect_of, is_asked, question_of, transfer_for}
+use Rattle.flow_why.specs.code.Frames.{IsFrame, call_after, effect_of, is_asked, question_of, transfer_for}
 use Rattle.flow_why.specs.code.Marked.{AreMarks, BaseHas, MayMark}
 use Rattle.flow_why.specs.code.Moves.{Crosses, moves_by_step, moves_into_call, moves_past_call, effect_between}
 use Rattle.flow_why.specs.declared.claim.Claim.{Claim}
@@ -64,7 +64,7 @@ module _ (frame : Frame) (is : IsFrame frame) where
   call_here site x p call = (
     call.0,
     subst (λ s. IsEdge (question_of frame).shape (Call s x ((question_of frame).shape.entry p)))
-        (is.sites site x ((question_of frame).shape.entry p) call.1) call.1,
+        (is.numbered.one_site site x ((question_of frame).shape.entry p) call.1) call.1,
   )
 
   pub return_here : (site x p : ℕ) → CallsAt (question_of frame).shape site x p
@@ -83,7 +83,7 @@ module _ (frame : Frame) (is : IsFrame frame) where
       let shape = (question_of frame).shape in
       (is.numbered.one_return site x (shape.entry p) z call.1).0
       (subst (λ q. IsEdge shape (Ret site (shape.exit q) z)) (sym (is.numbered.formed.entry_inside p call.0)) return)
-      ∙ ap (after_site frame.links.now.backward) (is.sites site x (shape.entry p) call.1)
+      ∙ ap (after_site frame.links.now.backward) (is.numbered.one_site site x (shape.entry p) call.1)
 
   -- the ends of edges are points
   pub source_low : (x y : ℕ) → IsEdge (question_of frame).shape (Step x y) → x < point_count frame.links.now.program

@@ -3,7 +3,7 @@ use Rattle.std.specs.Prelude.{◌≡◌, ◌<◌, ◌≤◌, ◌-◌, ℕ, Bool,
 use Rattle.flow_graph.specs.declared.edge.Edge.TheVariants.{Call}
 use Rattle.flow_graph.specs.Paths.{Transfer, IsEdge}
 use Rattle.flow_graph.specs.Points.{point_count}
-use Rattle.flow_links.specs.Shapes.{IsNumbered, LinkedProgram, after_site, directed_shape}
+use Rattle.flow_links.specs.Shapes.{IsNumbered, LinkedProgram, after_site, call_site, directed_shape}
 use Rattle.gen_kill.specs.Selections.{Selection, column_count, column_transfer}
 use Rattle.tac_program.specs.Programs.{Program}
 use Rattle.summary_equations.specs.Equations.{HasFlag, Preserved, Reached}
@@ -72,11 +72,7 @@ step_begin backward x y = if backward then y else x
 abbrev pub step_end : Bool → ℕ → ℕ → ℕ
 step_end backward x y = if backward then x else y
 
--- the site of the calls from a point
-abbrev pub call_site : Bool → ℕ → ℕ
-call_site backward x = if backward then x - 1 else x
-
--- where they return to
+-- where the calls from a point return to
 abbrev pub call_after : Bool → ℕ → ℕ
 call_after backward x = after_site backward (call_site backward x)
 
@@ -85,7 +81,6 @@ pub record IsFrame (frame : Frame) : Type 0 where
   pub asked : IsAskedOf frame.links.now frame.asked
   pub few : point_count frame.links.now.program ≤ 1048576
   pub numbered : IsNumbered (directed_shape frame.links.now) frame.links.now.backward (point_count frame.links.now.program)
-  pub sites : (site x y : ℕ) → IsEdge (directed_shape frame.links.now) (Call site x y) → site ≡ call_site frame.links.now.backward x
   pub base : (c : Claim) → (marks_of frame.base.now c).points ≡ point_count frame.links.now.program
   pub flags : (x : ℕ) → BaseHas frame.base.now claim.Holds x → HasFlag (directed_shape frame.links.now) x
   pub reaches : (x : ℕ) → BaseHas frame.base.now claim.Generated x → Reached (directed_shape frame.links.now) x

@@ -10,7 +10,7 @@ use Rattle.flow_why.specs.Directed.{direction_of}
 use Rattle.flow_why.specs.PointBits.{StatementBit, point_transfer}
 use Rattle.flow_why.specs.code.Closed.{IsGround, IsScope, whole_scope}
 use Rattle.flow_why.specs.code.Found.{Found, nothing_found}
-use Rattle.flow_why.specs.code.Frames.{call_site, question_of}
+use Rattle.flow_why.specs.code.Frames.{question_of}
 use Rattle.flow_why.specs.code.Marked.{AreMarks, BaseHas, Question}
 use Rattle.flow_why.specs.code.Trails.{IsAskedFrame, base_question}
 use Rattle.flow_why.specs.code.Visits.{IsComplete}
@@ -25,11 +25,10 @@ pub record KnownWays : Type 0 where
 abbrev pub IsBare : LinkedProgram → Found → Type 0
 IsBare linked found = found ≡ nothing_found (point_count linked.program)
 
--- the edges are numbered, and a call's site is its point, or where they are reversed the point before
+-- there are few points, and the edges are numbered
 pub record IsSited (linked : LinkedProgram) : Type 0 where
   pub few : point_count linked.program ≤ 1048576
   pub numbered : IsNumbered (directed_shape linked) linked.backward (point_count linked.program)
-  pub sites : (site x y : ℕ) → IsEdge (directed_shape linked) (Call site x y) → site ≡ call_site linked.backward x
 
 -- all is found of where paths lead
 pub record AreWays (ways : KnownWays) : Type 0 where

@@ -1,16 +1,14 @@
-use Rattle.std.proofs.Common.{false, slice_index_or, refl, sym, subst}
+use Rattle.std.proofs.Common.{false, slice_index_or, refl}
 use Rattle.flow_graph.specs.Points.{point_count}
 use Rattle.flow_why.specs.code.Closed.{idle_transfer}
-use Rattle.tac_program.specs.Sound.{IsSound}
-use Rattle.flow_links.specs.Shapes.{LinkedProgram, directed_shape}
+use Rattle.flow_links.specs.Shapes.{directed_shape}
 use Rattle.flow_why.proofs.solutions.Frames.{bare_frame, sited}
 use Rattle.flow_why.proofs.ways.bare_frame.Goals as goal
 
 pub returns-clause-frame : goal.returns-clause-frame
 returns-clause-frame c =
     bare_frame _ refl c.whole.ensures.kept
-    (sited c.args.links.now (subst (λ (linked : LinkedProgram). IsSound linked.program) (sym c.requires.linked) c.procedures.ensures.sound)
-    c.points.ensures.few c.points.ensures.numbered) c.requires.bare
+    (sited c.args.links.now c.points.ensures.few c.points.ensures.numbered) c.requires
 
 pub returns-clause-question : goal.returns-clause-question
 returns-clause-question c i = record {
@@ -19,7 +17,7 @@ returns-clause-question c i = record {
   points = point_count c.args.links.now.program;
   transfer = idle_transfer;
   value = false;
-  base = c.requires.bare i;
+  base = c.requires i;
   scope = record {
     skipped = λ p. slice_index_or (c.whole.ensures.skipped i) p false;
     kept = λ p. slice_index_or (c.whole.ensures.kept i) p false;

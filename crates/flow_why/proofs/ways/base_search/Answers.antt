@@ -1,6 +1,4 @@
-use Rattle.std.proofs.Common.{sym, subst}
-use Rattle.tac_program.specs.Sound.{IsSound}
-use Rattle.flow_links.specs.Shapes.{LinkedProgram}
+use Rattle.std.proofs.Common.{subst}
 use Rattle.flow_why.specs.code.Found.{Found}
 use Rattle.flow_why.specs.code.Frames.{question_of}
 use Rattle.flow_why.specs.code.Marked.{AreMarks}
@@ -14,8 +12,7 @@ pub returns : goal.returns
 returns c =
     let linked = c.args.links.now in
     let question = question_of c.bare_frame-frame.result in
-    let is = sited linked (subst (λ (l : LinkedProgram). IsSound l.program) (sym c.requires) c.procedures.ensures.sound)
-    c.points.ensures.few c.points.ensures.numbered in
+    let is = sited linked c.points.ensures.few c.points.ensures.numbered in
     if_ok_both c.search_for.result (AreMarks question) (IsComplete question) (λ (found : Found). AreWays (record { linked = linked; found = found }))
     (λ found marks complete. ways_of linked is found (subst (λ q. AreMarks q found) c.bare_frame-frame.ensures.question marks)
     (subst (λ q. IsComplete q found) c.bare_frame-frame.ensures.question complete))

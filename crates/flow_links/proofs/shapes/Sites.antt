@@ -9,8 +9,7 @@ use Rattle.flow_graph.specs.Paths.{IsEdge}
 use Rattle.flow_graph.specs.Reversals.{reversed_shape}
 use Rattle.flow_graph.proofs.edges.EdgeLemmas.{IsFrom, a_step, a_call, a_return, edges_are}
 use Rattle.flow_graph.proofs.paths.Reversal.{edge_back}
-use Rattle.flow_links.specs.Shapes.{LinkedProgram, directed_shape}
-use Rattle.flow_why.specs.code.Frames.{call_site}
+use Rattle.flow_links.specs.Shapes.{call_site}
 
 site_of_call : (program : Program) (point : ℕ) (edge : Edge) (site x y : ℕ) → edge ≡ Call site x y → IsFrom program point edge → site ≡ x
 site_of_call program point _ site x y same (a_step target inside) = absurd (cc same)
@@ -22,7 +21,7 @@ site_of_return program point _ site x y same (a_step target inside) = absurd (cc
 site_of_return program point _ site x y same (a_call callee there calling) = absurd (cc same)
 site_of_return program point _ site x y same (a_return s below calling none ends) = cc same
 
-sites_in : (program : Program) → IsSound program → (backward : Bool) (site x y : ℕ)
+pub sites_in : (program : Program) → IsSound program → (backward : Bool) (site x y : ℕ)
     → IsEdge (if backward then reversed_shape (shape_of program) else shape_of program) (Call site x y) → site ≡ call_site backward x
 sites_in program sound false site x y edge =
     let (point, below, here, is) = edges_are program sound (Call site x y) edge in
@@ -31,7 +30,3 @@ sites_in program sound true site x y edge =
     let (point, below, here, is) = edges_are program sound (Ret site y x) (edge_back (shape_of program) (Call site x y) edge) in
     let back = site_of_return program point (Ret site y x) site y x refl is in
     omega (arith, back)
-
-pub sites_of : (linked : LinkedProgram) → IsSound linked.program → (site x y : ℕ) → IsEdge (directed_shape linked) (Call site x y)
-    → site ≡ call_site linked.backward x
-sites_of linked sound = sites_in linked.program sound linked.backward
