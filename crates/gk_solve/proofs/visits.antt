@@ -1,4 +1,5 @@
 pub mod BroughtVisits
+pub mod Callees
 pub mod FlagVisits
 pub mod Listed
 pub mod SummaryVisits

@@ -4,13 +4,13 @@ ghost use Rattle.bit_rows.specs.Words.{has_bit};
 ghost use Rattle.flow_graph.specs.declared.edge.Edge.{Edge};
 ghost use Rattle.flow_graph.specs.declared.edge.Edge.TheVariants.{Step, Call};
 ghost use Rattle.flow_graph.specs.Directions.{goes_backward};
-ghost use Rattle.flow_graph.specs.Paths.{IsEdge};
+ghost use Rattle.flow_graph.specs.Paths.{IsEdge, source_of};
 ghost use Rattle.flow_graph.specs.Points.{point_count};
 ghost use Rattle.flow_links.specs.Shapes.{directed_shape};
-ghost use Rattle.flow_links.specs.LinkLists.{IsCallLink};
+ghost use Rattle.worklist.specs.Worklist.{IsMarked};
 ghost use Rattle.gk_solve.specs.Tables.Flags.{IsFlagged};
-ghost use Rattle.gk_solve.specs.Tables.Groups.{AreCompleteSummaries, AreJoined, AreOf, AreSameBut, AreSoundSummaries, IsCallerSettled, IsGroupFrame};
-ghost use Rattle.gk_solve.specs.Tables.Groups.{IsSummaryCallSettled, IsSummarySettled, SummarySpreads, WaitsFor};
+ghost use Rattle.gk_solve.specs.Tables.Groups.{AreCompleteSummaries, AreJoined, AreOf, AreOfSomeCallee, AreSameBut, AreSoundSummaries, IsGroupFrame};
+ghost use Rattle.gk_solve.specs.Tables.Groups.{IsSummarySettled, IsWoken, SummarySpreads};
 ghost use Rattle.gk_solve.specs.Tables.Groups.{group_of, preserved_word, generated_word};
 ghost use Rattle.gk_solve.specs.Tables.Groups.{room_of_summary};
 ghost use Rattle.gk_solve.specs.Tables.Words.{HasBit, IsPreserved, IsGenerated, step_statement};
@@ -20,7 +20,7 @@ use crate::group_frame::GroupFrame;
 use crate::lanes::{added_words, common_words, new_or_preserved};
 use crate::summary::Summary;
 use flow_graph::Direction;
-use flow_links::CallLink;
+use flow_links::Links;
 use worklist::Worklist;
 
 // A summary with bits added, and whether some of those were missing.
@@ -42,7 +42,23 @@ fn joined_summary<const W: usize>(before: Summary<W>, more: Summary<W>) -> (Summ
     )
 }
 
-// Adds to the summary of a point, and where that is anything, marks it.
+// Marks a point whose summary changed, and where it is an exit, the points of the calls that are left there.
+#[inline(always)]
+fn wake(links: &Links, dirty: &mut Worklist, at: u32)
+    requires count { length dirty.now ≡ point_count links.now.program }
+    requires within { at < point_count links.now.program }
+    ensures count { length dirty.new ≡ length dirty.old }
+    ensures keeps { (x : ℕ) → IsMarked dirty.old x → IsMarked dirty.new x }
+    ensures woken { IsWoken (directed_shape links.now) dirty.new at }
+{
+    dirty.mark(at as usize);
+    let callers = links.callers_of(at);
+    for caller in callers {
+        dirty.mark(*caller as usize);
+    }
+}
+
+// Adds to the summary of a point, and where that is anything, has what rests on it visited.
 #[inline(always)]
 fn put_summary<const W: usize>(
     frame: &GroupFrame,
@@ -57,7 +73,7 @@ fn put_summary<const W: usize>(
     requires keeps { AreOf (group_of frame.now W) (IsPreserved (directed_shape frame.now.links.now)) more.preserved at }
     requires makes { AreOf (group_of frame.now W) (IsGenerated (directed_shape frame.now.links.now)) more.generated at }
     ensures spreads { SummarySpreads (group_of frame.now W) frame.now.paths.now table.old dirty.old table.new dirty.new }
-    ensures same { AreSameBut at table.old table.new dirty.new }
+    ensures same { AreSameBut (directed_shape frame.now.links.now) at table.old table.new dirty.new }
     ensures preserved_added { (w k : ℕ) → w < W → has_bit (slice_index more.entry.preserved w) k ≡ true → HasBit (preserved_word table.new w) at k }
     ensures generated_added { (w k : ℕ) → w < W → has_bit (slice_index more.entry.generated w) k ≡ true → HasBit (generated_word table.new w) at k }
 {
@@ -67,7 +83,8 @@ fn put_summary<const W: usize>(
         return;
     }
     table[at as usize] = after;
-    dirty.mark(at as usize);
+    let links = frame.links;
+    wake(links, dirty, at);
 }
 
 // The point of a step's statement.
@@ -104,36 +121,6 @@ fn visit_step<const W: usize>(
     put_summary(frame, table, dirty, to, more);
 }
 
-// Goes over one call from a point with a path.
-#[inline(always)]
-fn visit_call<const W: usize>(
-    frame: &GroupFrame,
-    table: &mut [Summary<W>],
-    dirty: &mut Worklist,
-    at: u32,
-    call: CallLink,
-)
-    requires frame { IsGroupFrame W frame.now }
-    requires count { length table.now ≡ point_count frame.now.links.now.program }
-    requires dirty_count { length dirty.now ≡ point_count frame.now.links.now.program }
-    requires path { IsFlagged frame.now.paths.now at }
-    requires there { IsCallLink (directed_shape frame.now.links.now) frame.now.links.now.backward at call }
-    requires sound { AreSoundSummaries (group_of frame.now W) table.now }
-    ensures spreads { SummarySpreads (group_of frame.now W) frame.now.paths.now table.old dirty.old table.new dirty.new }
-    ensures settled { IsSummaryCallSettled (group_of frame.now W) frame.now.paths.now at table.new dirty.new call }
-{
-    if !frame.paths[call.exit as usize] {
-        return;
-    }
-    let before = table[at as usize];
-    let through = table[call.exit as usize];
-    let more = Summary {
-        preserved: common_words(before.preserved, through.preserved),
-        generated: new_or_preserved(through.generated, before.generated, through.preserved),
-    };
-    put_summary(frame, table, dirty, call.after, more);
-}
-
 // Goes over the steps from a point with a path.
 #[inline(always)]
 fn visit_steps<const W: usize>(
@@ -159,7 +146,31 @@ fn visit_steps<const W: usize>(
     }
 }
 
-// Goes over the calls from a point with a path.
+// What is preserved and generated by some callee of a point's calls whose exit has a path.
+#[inline(always)]
+fn called<const W: usize>(frame: &GroupFrame, table: &[Summary<W>], at: u32) -> Summary<W>
+    requires frame { IsGroupFrame W frame.now }
+    requires count { length table.now ≡ point_count frame.now.links.now.program }
+    requires within { at < point_count frame.now.links.now.program }
+    ensures preserved { AreOfSomeCallee (group_of frame.now W) frame.now.paths.now (preserved_word table.now) at result.preserved }
+    ensures generated { AreOfSomeCallee (group_of frame.now W) frame.now.paths.now (generated_word table.now) at result.generated }
+{
+    let mut all = Summary {
+        preserved: [0; W],
+        generated: [0; W],
+    };
+    let links = frame.links;
+    let calls = links.calls_from(at);
+    for call in calls {
+        if frame.paths[call.exit as usize] {
+            let (more, _) = joined_summary(all, table[call.exit as usize]);
+            all = more;
+        }
+    }
+    all
+}
+
+// Goes over the calls from a point with a path: of one point all return to one.
 fn visit_calls<const W: usize>(
     frame: &GroupFrame,
     table: &mut [Summary<W>],
@@ -178,88 +189,19 @@ fn visit_calls<const W: usize>(
 {
     let links = frame.links;
     let calls = links.calls_from(at);
-    for call in calls {
-        visit_call(frame, table, dirty, at, *call);
-    }
-}
-
-// Goes over one call from a point with a path, if it is left at an exit.
-fn visit_call_left_at<const W: usize>(
-    frame: &GroupFrame,
-    table: &mut [Summary<W>],
-    dirty: &mut Worklist,
-    at: u32,
-    exit: u32,
-    call: CallLink,
-)
-    requires frame { IsGroupFrame W frame.now }
-    requires count { length table.now ≡ point_count frame.now.links.now.program }
-    requires dirty_count { length dirty.now ≡ point_count frame.now.links.now.program }
-    requires path { IsFlagged frame.now.paths.now at }
-    requires there { IsCallLink (directed_shape frame.now.links.now) frame.now.links.now.backward at call }
-    requires sound { AreSoundSummaries (group_of frame.now W) table.now }
-    ensures spreads { SummarySpreads (group_of frame.now W) frame.now.paths.now table.old dirty.old table.new dirty.new }
-    ensures settled { call.exit ≡ exit → IsSummaryCallSettled (group_of frame.now W) frame.now.paths.now at table.new dirty.new call }
-{
-    if call.exit == exit {
-        visit_call(frame, table, dirty, at, call);
-    }
-}
-
-// Goes over the calls from a point that are left at an exit, unless the point is still to be visited.
-fn visit_caller<const W: usize>(
-    frame: &GroupFrame,
-    table: &mut [Summary<W>],
-    dirty: &mut Worklist,
-    at: u32,
-    exit: u32,
-)
-    requires frame { IsGroupFrame W frame.now }
-    requires count { length table.now ≡ point_count frame.now.links.now.program }
-    requires dirty_count { length dirty.now ≡ point_count frame.now.links.now.program }
-    requires within { at < point_count frame.now.links.now.program }
-    requires sound { AreSoundSummaries (group_of frame.now W) table.now }
-    ensures spreads { SummarySpreads (group_of frame.now W) frame.now.paths.now table.old dirty.old table.new dirty.new }
-    ensures settled { IsCallerSettled (group_of frame.now W) frame.now.paths.now exit table.new dirty.new at }
-{
-    if !frame.paths[at as usize] {
+    let Some(call) = calls.first() else {
         return;
-    }
-    if dirty.contains(at as usize) {
-        return;
-    }
-    let links = frame.links;
-    let calls = links.calls_from(at);
-    for call in calls {
-        visit_call_left_at(frame, table, dirty, at, exit, *call);
-    }
+    };
+    let before = table[at as usize];
+    let through = called(frame, table, at);
+    let more = Summary {
+        preserved: common_words(before.preserved, through.preserved),
+        generated: new_or_preserved(through.generated, before.generated, through.preserved),
+    };
+    put_summary(frame, table, dirty, call.after, more);
 }
 
-// Goes over the calls that are left at a point.
-fn visit_callers<const W: usize>(
-    frame: &GroupFrame,
-    table: &mut [Summary<W>],
-    dirty: &mut Worklist,
-    at: u32,
-)
-    requires frame { IsGroupFrame W frame.now }
-    requires count { length table.now ≡ point_count frame.now.links.now.program }
-    requires dirty_count { length dirty.now ≡ point_count frame.now.links.now.program }
-    requires within { at < point_count frame.now.links.now.program }
-    requires sound { AreSoundSummaries (group_of frame.now W) table.now }
-    ensures spreads { SummarySpreads (group_of frame.now W) frame.now.paths.now table.old dirty.old table.new dirty.new }
-    ensures settled { (site x y : ℕ) → IsEdge (directed_shape frame.now.links.now) (Call site x y)
-        → (directed_shape frame.now.links.now).exit ((directed_shape frame.now.links.now).procedure_of y) ≡ at
-        → IsSummarySettled (group_of frame.now W) frame.now.paths.now table.new dirty.new (Call site x y) }
-{
-    let links = frame.links;
-    let callers = links.callers_of(at);
-    for caller in callers {
-        visit_caller(frame, table, dirty, *caller, at);
-    }
-}
-
-// Goes over the edges that wait for a point.
+// Goes over the edges from a point.
 #[inline(always)]
 fn visit_point<const W: usize>(
     frame: &GroupFrame,
@@ -273,13 +215,12 @@ fn visit_point<const W: usize>(
     requires within { at < point_count frame.now.links.now.program }
     requires sound { AreSoundSummaries (group_of frame.now W) table.now }
     ensures spreads { SummarySpreads (group_of frame.now W) frame.now.paths.now table.old dirty.old table.new dirty.new }
-    ensures settled { (edge : Edge) → IsEdge (directed_shape frame.now.links.now) edge → WaitsFor (directed_shape frame.now.links.now) edge at
+    ensures settled { (edge : Edge) → IsEdge (directed_shape frame.now.links.now) edge → source_of edge ≡ at
         → IsSummarySettled (group_of frame.now W) frame.now.paths.now table.new dirty.new edge }
 {
     if frame.paths[at as usize] {
         visit_steps(frame, table, dirty, at);
         visit_calls(frame, table, dirty, at);
-        visit_callers(frame, table, dirty, at);
     }
 }
 

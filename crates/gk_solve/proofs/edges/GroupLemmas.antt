@@ -1,16 +1,18 @@
 -- What a group's frame says of one edge
-use Rattle.std.proofs.Common.{◌≡◌, ◌<◌, ◌+◌, ◌*◌, ◌&&◌, ◌||◌, not, length, get_or, false, true, Bool, ℕ, List, [], sym, ◌∙◌, subst, ap}
+use Rattle.std.proofs.Common.{◌≡◌, ◌<◌, ◌+◌, ◌*◌, inl, inr, ◌&&◌, ◌||◌, not, length, get_or, false, true, Bool, ℕ, List, [], sym, ◌∙◌, subst, ap}
+use Rattle.std.proofs.lemmas.Bool.{and_parts}
 use Rattle.std.proofs.lemmas.List.{get_or_default}
 use Rattle.bit_rows.specs.Words.{has_bit}
-use Rattle.flow_graph.specs.declared.edge.Edge.TheVariants.{Step}
+use Rattle.flow_graph.specs.declared.edge.Edge.TheVariants.{Step, Call}
 use Rattle.flow_graph.specs.Paths.{IsEdge}
 use Rattle.flow_graph.specs.Points.{point_count}
-use Rattle.summary_equations.specs.Equations.{Reached, HasFlag}
-use Rattle.flow_links.specs.Shapes.{LinkedProgram, directed_shape}
+use Rattle.summary_equations.specs.Equations.{HasFlag}
+use Rattle.flow_links.specs.Shapes.{LinkedProgram, after_site, directed_shape}
 use Rattle.flow_links.specs.LinkLists.{IsCallLink, IsSiteLink}
 use Rattle.gk_solve.specs.Tables.Brought.{AreBroughtOf, AreSoundBrought, brought_word}
 use Rattle.gk_solve.specs.Tables.Flags.{IsFlagged}
-use Rattle.gk_solve.specs.Tables.Groups.{AreOf, AreSameBut, AreSoundSummaries, IsGroupFrame, IsPreservedAcross, IsGeneratedAcross, IsSummaryCallSettled}
+use Rattle.gk_solve.specs.Tables.Groups.{AreOf, AreOfSomeCallee, AreSameBut, AreSoundSummaries, IsGroupFrame, IsPreservedAcross, IsGeneratedAcross}
+use Rattle.gk_solve.specs.Tables.Groups.{IsSummarySettled}
 use Rattle.gk_solve.specs.Tables.Groups.{group_of, preserved_word, generated_word, summary_at}
 use Rattle.gk_solve.specs.Tables.Words.{HasBit, IsBrought, IsPreserved, IsGenerated, place_gens, place_kills, step_statement}
 use Rattle.gk_solve.specs.declared.group_frame.GroupFrame.{GroupFrame}
@@ -18,7 +20,7 @@ use Rattle.flow_links.specs.declared.link.CallLink.{CallLink}
 use Rattle.flow_links.specs.declared.link.SiteLink.{SiteLink}
 use Rattle.gk_solve.specs.declared.summary.Summary.{Summary}
 use Rattle.gk_solve.proofs.visits.SummaryVisits.{call_settled}
-use Rattle.gk_solve.proofs.edges.WordEdges.{step_keeps, step_makes, call_brings, call_keeps, call_makes}
+use Rattle.gk_solve.proofs.edges.WordEdges.{step_keeps, step_makes, call_brings, call_keeps, call_makes, which_bit}
 
 -- a summary that was read
 pub read_summary : {W : ℕ} (table : List (Summary W)) (at : ℕ) (before : Summary W) → at < length table → before ≡ get_or table at before
@@ -78,61 +80,65 @@ module _ (width : ℕ) (frame : GroupFrame) (is : IsGroupFrame width frame) wher
   abbrev exit_of : ℕ → ℕ
   exit_of y = (directed_shape frame.links.now).exit ((directed_shape frame.links.now).procedure_of y)
 
-  -- a call from a point
-  module _ {W : ℕ} (table : List (Summary W)) (sound : AreSoundSummaries (group_of frame width) table) (at : ℕ) (link : CallLink)
-      (there : IsCallLink (directed_shape frame.links.now) frame.links.now.backward at link)
-      (path : IsFlagged frame.paths.now at) (through_path : IsFlagged frame.paths.now link.exit) (within : at < length table)
-      (exit_within : link.exit < length table) (before through : Summary W)
-      (read : before ≡ get_or table at before) (read_exit : through ≡ get_or table link.exit through) (preserved generated : List ℕ)
+  -- the calls from a point
+  module _ {W : ℕ} (table : List (Summary W)) (sound : AreSoundSummaries (group_of frame width) table) (at : ℕ) (path : IsFlagged frame.paths.now at)
+      (through : Summary W) (some_preserved : AreOfSomeCallee (group_of frame width) frame.paths.now (preserved_word table) at through.preserved)
+      (some_generated : AreOfSomeCallee (group_of frame width) frame.paths.now (generated_word table) at through.generated) (within : at < length table)
+      (before : Summary W) (read : before ≡ get_or table at before) (preserved generated : List ℕ)
       (are_preserved : (w k : ℕ) → w < width → has_bit (get_or preserved w 0) k ≡ (has_bit (get_or before.preserved w 0) k && has_bit (get_or through.preserved w 0) k))
       (are_generated : (w k : ℕ) → w < width → has_bit (get_or generated w 0) k
-      ≡ (has_bit (get_or through.generated w 0) k || (has_bit (get_or before.generated w 0) k && has_bit (get_or through.preserved w 0) k))) where
-    at_exit : (y : ℕ) → link.exit ≡ exit_of y → through ≡ summary_at table (exit_of y)
-    at_exit y exit = read_summary table link.exit through exit_within read_exit ∙ ap (λ n. summary_at table n) exit
+      ≡ (has_bit (get_or through.generated w 0) k || (has_bit (get_or before.generated w 0) k && has_bit (get_or through.preserved w 0) k)))
+      (link : CallLink) (there : IsCallLink (directed_shape frame.links.now) frame.links.now.backward at link) where
+    pub after_is : (site y : ℕ) → IsEdge (directed_shape frame.links.now) (Call site at y) → link.after ≡ after_site frame.links.now.backward site
+    after_is site y edge = there.4 ∙ ap (after_site frame.links.now.backward)
+        (is.numbered.one_site there.0 at there.1 there.2 ∙ sym (is.numbered.one_site site at y edge))
 
-    pub call_preserved : (y : ℕ) → link.exit ≡ exit_of y → (w k : ℕ) → w < width
-        → has_bit (get_or preserved w 0) k ≡ (has_bit (preserved_word table w at) k && has_bit (preserved_word table w (exit_of y)) k)
-    call_preserved y exit w k inside = are_preserved w k inside
-        ∙ (ap (λ (s : Summary W). has_bit (get_or s.preserved w 0) k && has_bit (get_or through.preserved w 0) k) (read_summary table at before within read)
-        ∙ ap (λ (s : Summary W). has_bit (preserved_word table w at) k && has_bit (get_or s.preserved w 0) k) (at_exit y exit))
+    pub preserved_is : (w k : ℕ) → w < width
+        → has_bit (get_or preserved w 0) k ≡ (has_bit (preserved_word table w at) k && has_bit (get_or through.preserved w 0) k)
+    preserved_is w k inside = are_preserved w k inside
+        ∙ ap (λ (s : Summary W). has_bit (get_or s.preserved w 0) k && has_bit (get_or through.preserved w 0) k) (read_summary table at before within read)
 
-    pub call_generated : (y : ℕ) → link.exit ≡ exit_of y → (w k : ℕ) → w < width
-        → has_bit (get_or generated w 0) k
-        ≡ (has_bit (generated_word table w (exit_of y)) k || (has_bit (generated_word table w at) k && has_bit (preserved_word table w (exit_of y)) k))
-    call_generated y exit w k inside = are_generated w k inside
-        ∙ (ap (λ (s : Summary W). has_bit (get_or through.generated w 0) k || (has_bit (get_or s.generated w 0) k && has_bit (get_or through.preserved w 0) k))
+    pub generated_is : (w k : ℕ) → w < width → has_bit (get_or generated w 0) k
+        ≡ (has_bit (get_or through.generated w 0) k || (has_bit (generated_word table w at) k && has_bit (get_or through.preserved w 0) k))
+    generated_is w k inside = are_generated w k inside
+        ∙ ap (λ (s : Summary W). has_bit (get_or through.generated w 0) k || (has_bit (get_or s.generated w 0) k && has_bit (get_or through.preserved w 0) k))
         (read_summary table at before within read)
-        ∙ ap (λ (s : Summary W). has_bit (get_or s.generated w 0) k || (has_bit (generated_word table w at) k && has_bit (get_or s.preserved w 0) k))
-        (at_exit y exit))
-
-    reached_exit : (y : ℕ) → link.exit ≡ exit_of y → Reached (directed_shape frame.links.now) (exit_of y)
-    reached_exit y exit = subst (Reached (directed_shape frame.links.now)) exit (flag_of link.exit through_path).1
 
     pub call_keeps_of : AreOf (group_of frame width) (IsPreserved (directed_shape frame.links.now)) preserved link.after
     call_keeps_of w k inside low has =
-        subst (IsPreserved (directed_shape frame.links.now) ((group_of frame width).transfer w) k) (sym there.4)
-        (call_keeps is.numbered ((group_of frame width).transfer w) there.0 at there.1 there.2 (flag_of at path).1 (reached_exit there.1 there.3)
-        (preserved_word table w) (get_or preserved w 0) k low (call_preserved there.1 there.3 w k inside) (sound w inside).0 has)
+        let parts = and_parts (has_bit (preserved_word table w at) k) (has_bit (get_or through.preserved w 0) k) (sym (preserved_is w k inside) ∙ has) in
+        let (site, y, edge, flagged, passes) = (some_preserved w k inside).0 parts.1 in
+        subst (IsPreserved (directed_shape frame.links.now) ((group_of frame width).transfer w) k) (sym (after_is site y edge))
+        (call_keeps is.numbered ((group_of frame width).transfer w) site at y k edge (flag_of at path).1 (flag_of (exit_of y) flagged).1
+        ((sound w inside).0 at k low parts.0) ((sound w inside).0 (exit_of y) k low passes))
 
     pub call_makes_of : AreOf (group_of frame width) (IsGenerated (directed_shape frame.links.now)) generated link.after
     call_makes_of w k inside low has =
-        subst (IsGenerated (directed_shape frame.links.now) ((group_of frame width).transfer w) k) (sym there.4)
-        (call_makes is.numbered ((group_of frame width).transfer w) there.0 at there.1 there.2 (flag_of at path).1 (reached_exit there.1 there.3)
-        (preserved_word table w) (generated_word table w) (get_or generated w 0) k low (call_generated there.1 there.3 w k inside)
-        (sound w inside).0 (sound w inside).1 has)
+        elim (which_bit (has_bit (get_or through.generated w 0) k) (has_bit (generated_word table w at) k) (has_bit (get_or through.preserved w 0) k)
+        (sym (generated_is w k inside) ∙ has)) [
+          | inl callee ↦
+              let (site, y, edge, flagged, makes) = (some_generated w k inside).0 callee in
+              subst (IsGenerated (directed_shape frame.links.now) ((group_of frame width).transfer w) k) (sym (after_is site y edge))
+              (call_makes is.numbered ((group_of frame width).transfer w) site at y k edge (flag_of at path).1 (flag_of (exit_of y) flagged).1
+              (inl ((sound w inside).1 (exit_of y) k low makes)))
+          | inr passed ↦
+              let (site, y, edge, flagged, passes) = (some_preserved w k inside).0 passed.1 in
+              subst (IsGenerated (directed_shape frame.links.now) ((group_of frame width).transfer w) k) (sym (after_is site y edge))
+              (call_makes is.numbered ((group_of frame width).transfer w) site at y k edge (flag_of at path).1 (flag_of (exit_of y) flagged).1
+              (inr ((sound w inside).1 at k low passed.0, (sound w inside).0 (exit_of y) k low passes)))
+        ]
 
-    pub call_settled_of : (new : List (Summary W)) (dirty_after : List Bool) → AreSameBut link.after table new dirty_after
+    pub calls_settled_of : (new : List (Summary W)) (dirty_after : List Bool) → AreSameBut (directed_shape frame.links.now) link.after table new dirty_after
         → ((w k : ℕ) → w < width → has_bit (get_or preserved w 0) k ≡ true → HasBit (preserved_word new w) link.after k)
         → ((w k : ℕ) → w < width → has_bit (get_or generated w 0) k ≡ true → HasBit (generated_word new w) link.after k)
-        → IsSummaryCallSettled (group_of frame width) frame.paths.now at new dirty_after link
-    call_settled_of new dirty_after same preserved_added generated_added = record {
-      settled = λ site y call exit after.
-          call_settled (group_of frame width) frame.paths.now site at y call table new dirty_after (record { preserved = preserved; generated = generated })
-          (call_preserved y exit) (call_generated y exit)
-          (subst (λ n. AreSameBut n table new dirty_after) after same)
-          (λ w k inside has. subst (λ n. HasBit (preserved_word new w) n k) after (preserved_added w k inside has))
-          (λ w k inside has. subst (λ n. HasBit (generated_word new w) n k) after (generated_added w k inside has));
-    }
+        → (site y : ℕ) → IsEdge (directed_shape frame.links.now) (Call site at y)
+        → IsSummarySettled (group_of frame width) frame.paths.now new dirty_after (Call site at y)
+    calls_settled_of new dirty_after same preserved_added generated_added site y edge =
+        call_settled (group_of frame width) frame.paths.now site at y edge table new dirty_after through
+        (record { preserved = preserved; generated = generated }) preserved_is generated_is some_preserved some_generated
+        (subst (λ n. AreSameBut (directed_shape frame.links.now) n table new dirty_after) (after_is site y edge) same)
+        (λ w k inside has. subst (λ n. HasBit (preserved_word new w) n k) (after_is site y edge) (preserved_added w k inside has))
+        (λ w k inside has. subst (λ n. HasBit (generated_word new w) n k) (after_is site y edge) (generated_added w k inside has))
 
   -- what a call brings from its procedure
   module _ {W : ℕ} (summaries : List (Summary W)) (brought : List (List ℕ)) (procedure : ℕ) (link : SiteLink)

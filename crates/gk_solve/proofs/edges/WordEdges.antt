@@ -42,32 +42,18 @@ module _ {shape : Shape} {backward : Bool} {points : ℕ} (is : IsNumbered shape
         | inr before ↦ generated_before_step x y there at_x (sound x k low before.0) (not-true ((transfer k).kill x y) before.1)
       ]
 
-  pub call_keeps : (site x y : ℕ) → IsEdge shape (Call site x y) → Reached shape x → Reached shape (shape.exit (shape.procedure_of y))
-      → (preserved : ℕ → ℕ) (bits k : ℕ) → k < 64
-      → has_bit bits k ≡ (has_bit (preserved x) k && has_bit (preserved (shape.exit (shape.procedure_of y))) k) → AreSoundWords (IsPreserved shape transfer) preserved
-      → has_bit bits k ≡ true
-      → IsPreserved shape transfer k (after_site backward site)
-  call_keeps site x y there at_x at_exit preserved bits k low are sound has =
-      let p = shape.procedure_of y in
-      let parts = and_parts (has_bit (preserved x) k) (has_bit (preserved (shape.exit p)) k) (sym are ∙ has) in
-      preserved_by_call site x p (after_site backward site) (call_of is site x y there) (return_of is site x y there) at_x at_exit (sound x k low parts.0)
-      (sound (shape.exit p) k low parts.1)
+  pub call_keeps : (site x y k : ℕ) → IsEdge shape (Call site x y) → Reached shape x → Reached shape (shape.exit (shape.procedure_of y))
+      → IsPreserved shape transfer k x → IsPreserved shape transfer k (shape.exit (shape.procedure_of y)) → IsPreserved shape transfer k (after_site backward site)
+  call_keeps site x y k there at_x at_exit = preserved_by_call site x (shape.procedure_of y) (after_site backward site) (call_of is site x y there)
+      (return_of is site x y there) at_x at_exit
 
-  pub call_makes : (site x y : ℕ) → IsEdge shape (Call site x y) → Reached shape x → Reached shape (shape.exit (shape.procedure_of y))
-      → (preserved generated : ℕ → ℕ) (bits k : ℕ) → k < 64
-      → has_bit bits k
-      ≡ (has_bit (generated (shape.exit (shape.procedure_of y))) k || (has_bit (generated x) k && has_bit (preserved (shape.exit (shape.procedure_of y))) k))
-      → AreSoundWords (IsPreserved shape transfer) preserved → AreSoundWords (IsGenerated shape transfer) generated → has_bit bits k ≡ true
-      → IsGenerated shape transfer k (after_site backward site)
-  call_makes site x y there at_x at_exit preserved generated bits k low are preserved_sound generated_sound has =
-      let p = shape.procedure_of y in
-      let call = call_of is site x y there in
-      let return = return_of is site x y there in
-      elim (which_bit (has_bit (generated (shape.exit p)) k) (has_bit (generated x) k) (has_bit (preserved (shape.exit p)) k) (sym are ∙ has)) [
-        | inl callee ↦ generated_by_callee site x p (after_site backward site) call return at_x at_exit (generated_sound (shape.exit p) k low callee)
-        | inr before ↦ generated_before_call site x p (after_site backward site) call return at_x at_exit (generated_sound x k low before.0)
-            (preserved_sound (shape.exit p) k low before.1)
-      ]
+  pub call_makes : (site x y k : ℕ) → IsEdge shape (Call site x y) → Reached shape x → Reached shape (shape.exit (shape.procedure_of y))
+      → IsGenerated shape transfer k (shape.exit (shape.procedure_of y))
+      ⊎ (IsGenerated shape transfer k x × IsPreserved shape transfer k (shape.exit (shape.procedure_of y))) → IsGenerated shape transfer k (after_site backward site)
+  call_makes site x y k there at_x at_exit (inl callee) = generated_by_callee site x (shape.procedure_of y) (after_site backward site) (call_of is site x y there)
+      (return_of is site x y there) at_x at_exit callee
+  call_makes site x y k there at_x at_exit (inr before) = generated_before_call site x (shape.procedure_of y) (after_site backward site) (call_of is site x y there)
+      (return_of is site x y there) at_x at_exit before.0 before.1
 
   pub call_brings : (site x y : ℕ) → IsEdge shape (Call site x y) → HasFlag shape x → (preserved generated brought : ℕ → ℕ) (bits k : ℕ) → k < 64
       → has_bit bits k ≡ (has_bit (generated x) k || (has_bit (brought (shape.procedure_of x)) k && has_bit (preserved x) k))

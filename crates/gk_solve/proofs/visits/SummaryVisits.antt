@@ -1,5 +1,5 @@
 -- What a visit of a point does to summaries and marks
-use Rattle.std.proofs.Common.{◌≡◌, ◌≢◌, ◌<◌, ◌≤◌, ◌+◌, inl, inr, ◌&&◌, ◌||◌, not, length, get_or, set, true, false, refl, ◌⊎◌, Bool, ℕ, List, []}
+use Rattle.std.proofs.Common.{◌≡◌, ◌≢◌, ◌<◌, ◌≤◌, ◌+◌, inl, inr, ◌&&◌, ◌||◌, not, length, get_or, set, true, Bool, ℕ, List, []}
 use Rattle.std.proofs.Common.{arith, sym, ◌∙◌, subst, ap, suc, zero, ◌*◌}
 use prog.Memory.{up}
 use Rattle.std.proofs.lemmas.Bool.{cases_eq, or_left, or_right, or_cases, and_from, not_from_false}
@@ -10,13 +10,12 @@ use Rattle.flow_graph.specs.declared.edge.Edge.{Edge}
 use Rattle.flow_graph.specs.declared.edge.Edge.TheVariants.{Step, Call, Ret}
 use Rattle.flow_graph.specs.Paths.{Shape, IsEdge, source_of}
 use Rattle.flow_links.specs.Shapes.{after_site}
-use Rattle.worklist.specs.Worklist.{IsMarked, AreClear}
+use Rattle.worklist.specs.Worklist.{IsMarked}
 use Rattle.gk_solve.specs.Tables.Flags.{IsFlagged}
 use Rattle.gk_solve.specs.Tables.Groups.{Group, summary_at, preserved_word, generated_word, room_of_summary, room_of_summaries, SummariesGrow}
-use Rattle.gk_solve.specs.Tables.Groups.{AreSoundSummaries, IsCallerSettled, IsSummaryCallSettled, IsSummaryClosedAt, IsSummarySettled}
-use Rattle.gk_solve.specs.Tables.Groups.{SummarySpreads, AreSameBut, AreOf, AreJoined, IsPreservedAcross, IsGeneratedAcross, WaitsFor}
+use Rattle.gk_solve.specs.Tables.Groups.{AreSoundSummaries, IsSummarySettled, IsWoken}
+use Rattle.gk_solve.specs.Tables.Groups.{SummarySpreads, AreSameBut, AreOf, AreOfSomeCallee, AreJoined, IsPreservedAcross, IsGeneratedAcross}
 use Rattle.gk_solve.specs.Tables.Words.{HasBit, AreSoundWords, IsPreserved, IsGenerated}
-use Rattle.flow_links.specs.declared.link.CallLink.{CallLink}
 use Rattle.gk_solve.specs.declared.summary.Summary.{Summary}
 use Rattle.gk_solve.proofs.edges.WordEdges.{new_bit}
 
@@ -119,14 +118,14 @@ abbrev exit_of : Shape → ℕ → ℕ
 exit_of shape y = shape.exit (shape.procedure_of y)
 
 module _ {W : ℕ} (group : Group) (paths : List Bool) where
-  -- what is settled stays so, where the table grows and the point that changes is marked
+  -- what is settled stays so, where the table grows and what rests on the point that changes is marked
   pub put_settled : (old new : List (Summary W)) (dirty dirty_after : List Bool) (at : ℕ) → SummariesGrow group.width old new
       → ((x : ℕ) → IsMarked dirty x → IsMarked dirty_after x)
-      → AreSameBut at old new dirty_after
+      → AreSameBut group.shape at old new dirty_after
       → (edge : Edge) → IsEdge group.shape edge → IsSummarySettled group paths old dirty edge → IsSummarySettled group paths new dirty_after edge
-  put_settled old new dirty dirty_after at grows keeps same edge there (inr waits) = inr (waits.0, waits.1, keeps waits.0 waits.2)
+  put_settled old new dirty dirty_after at grows keeps same edge there (inr marked) = inr (keeps (source_of edge) marked)
   put_settled old new dirty dirty_after at grows keeps same (Step x y) there (inl closed) = elim (same x) [
-    | inr woken ↦ inr (x, refl, subst (IsMarked dirty_after) (sym woken.0) woken.1)
+    | inr woken ↦ inr (subst (IsMarked dirty_after) (sym woken.0) woken.1.itself)
     | inl still ↦ inl (λ w inside. (
       λ k low at_x has unkilled.
           (grows w inside).0 y k ((closed w inside).0 k low at_x (sym (ap (λ (s : Summary W). has_bit (get_or s.preserved w 0) k) still) ∙ has) unkilled),
@@ -137,9 +136,9 @@ module _ {W : ℕ} (group : Group) (paths : List Bool) where
     ))
   ]
   put_settled old new dirty dirty_after at grows keeps same (Call site x y) there (inl closed) = elim (same x) [
-    | inr woken ↦ inr (x, inl refl, subst (IsMarked dirty_after) (sym woken.0) woken.1)
+    | inr woken ↦ inr (subst (IsMarked dirty_after) (sym woken.0) woken.1.itself)
     | inl still ↦ elim (same (exit_of group.shape y)) [
-      | inr woken ↦ inr (exit_of group.shape y, inr refl, subst (IsMarked dirty_after) (sym woken.0) woken.1)
+      | inr woken ↦ inr (woken.1.callers x (site, y, there, woken.0))
       | inl through ↦ inl (λ w inside. (
         λ k low at_x at_exit has passes. (grows w inside).0 (after_site group.backward site) k
             ((closed w inside).0 k low at_x at_exit (sym (ap (λ (s : Summary W). has_bit (get_or s.preserved w 0) k) still)
@@ -159,12 +158,12 @@ module _ {W : ℕ} (group : Group) (paths : List Bool) where
   -- a step whose bits were put is settled
   pub step_settled : (x y : ℕ) (old new : List (Summary W)) (dirty_after : List Bool) (more : Summary W)
       → IsPreservedAcross group x y (summary_at old x).preserved more.preserved → IsGeneratedAcross group x y (summary_at old x).generated more.generated
-      → AreSameBut y old new dirty_after
+      → AreSameBut group.shape y old new dirty_after
       → ((w k : ℕ) → w < group.width → has_bit (get_or more.preserved w 0) k ≡ true → HasBit (preserved_word new w) y k)
       → ((w k : ℕ) → w < group.width → has_bit (get_or more.generated w 0) k ≡ true → HasBit (generated_word new w) y k)
       → IsSummarySettled group paths new dirty_after (Step x y)
   step_settled x y old new dirty_after more keep make same preserved_added generated_added = elim (same x) [
-    | inr woken ↦ inr (x, refl, subst (IsMarked dirty_after) (sym woken.0) woken.1)
+    | inr woken ↦ inr (subst (IsMarked dirty_after) (sym woken.0) woken.1.itself)
     | inl still ↦ inl (λ w inside. (
       λ k low at_x has unkilled.
           preserved_added w k inside (keep w k inside low ∙ and_from (has_bit (preserved_word old w x) k) (not ((group.transfer w k).kill x y))
@@ -181,44 +180,43 @@ module _ {W : ℕ} (group : Group) (paths : List Bool) where
     ))
   ]
 
-  -- a call whose bits were put is settled
-  pub call_settled : (site x y : ℕ) → IsEdge group.shape (Call site x y) → (old new : List (Summary W)) (dirty_after : List Bool) (more : Summary W)
+  -- a call whose bits were put, of all callees together, is settled
+  pub call_settled : (site x y : ℕ) → IsEdge group.shape (Call site x y) → (old new : List (Summary W)) (dirty_after : List Bool) (through more : Summary W)
       → ((w k : ℕ) → w < group.width
-      → has_bit (get_or more.preserved w 0) k ≡ (has_bit (preserved_word old w x) k && has_bit (preserved_word old w (exit_of group.shape y)) k))
-      → ((w k : ℕ) → w < group.width → has_bit (get_or more.generated w 0) k ≡ (has_bit (generated_word old w (exit_of group.shape y)) k
-      || (has_bit (generated_word old w x) k && has_bit (preserved_word old w (exit_of group.shape y)) k)))
-      → AreSameBut (after_site group.backward site) old new dirty_after
+      → has_bit (get_or more.preserved w 0) k ≡ (has_bit (preserved_word old w x) k && has_bit (get_or through.preserved w 0) k))
+      → ((w k : ℕ) → w < group.width → has_bit (get_or more.generated w 0) k
+      ≡ (has_bit (get_or through.generated w 0) k || (has_bit (generated_word old w x) k && has_bit (get_or through.preserved w 0) k)))
+      → AreOfSomeCallee group paths (preserved_word old) x through.preserved → AreOfSomeCallee group paths (generated_word old) x through.generated
+      → AreSameBut group.shape (after_site group.backward site) old new dirty_after
       → ((w k : ℕ) → w < group.width → has_bit (get_or more.preserved w 0) k ≡ true → HasBit (preserved_word new w) (after_site group.backward site) k)
       → ((w k : ℕ) → w < group.width → has_bit (get_or more.generated w 0) k ≡ true → HasBit (generated_word new w) (after_site group.backward site) k)
       → IsSummarySettled group paths new dirty_after (Call site x y)
-  call_settled site x y there old new dirty_after more keep make same preserved_added generated_added = elim (same x) [
-    | inr woken ↦ inr (x, inl refl, subst (IsMarked dirty_after) (sym woken.0) woken.1)
-    | inl still ↦ elim (same (exit_of group.shape y)) [
-      | inr woken ↦ inr (exit_of group.shape y, inr refl, subst (IsMarked dirty_after) (sym woken.0) woken.1)
-      | inl through ↦ inl (λ w inside. (
-        λ k low at_x at_exit has passes.
-            preserved_added w k inside (keep w k inside ∙ and_from (has_bit (preserved_word old w x) k) (has_bit (preserved_word old w (exit_of group.shape y)) k)
-            (sym (ap (λ (s : Summary W). has_bit (get_or s.preserved w 0) k) still)
-            ∙ has) (sym (ap (λ (s : Summary W). has_bit (get_or s.preserved w 0) k) through) ∙ passes)),
-        λ k low at_x at_exit either. generated_added w k inside (make w k inside ∙ new_bit (has_bit (generated_word old w (exit_of group.shape y)) k)
-            (has_bit (generated_word old w x) k) (has_bit (preserved_word old w (exit_of group.shape y)) k) (elim either [
-              | inl callee ↦ inl (sym (ap (λ (s : Summary W). has_bit (get_or s.generated w 0) k) through) ∙ callee)
-              | inr before ↦ inr (
-                sym (ap (λ (s : Summary W). has_bit (get_or s.generated w 0) k) still) ∙ before.0,
-                sym (ap (λ (s : Summary W). has_bit (get_or s.preserved w 0) k) through) ∙ before.1,
-              )
-            ])),
-      ))
-    ]
-  ]
+  call_settled site x y there old new dirty_after through more keep make some_preserved some_generated same preserved_added generated_added =
+      elim (same x) [
+        | inr woken ↦ inr (subst (IsMarked dirty_after) (sym woken.0) woken.1.itself)
+        | inl still ↦ elim (same (exit_of group.shape y)) [
+          | inr woken ↦ inr (woken.1.callers x (site, y, there, woken.0))
+          | inl left ↦ inl (λ w inside. (
+            λ k low at_x at_exit has passes.
+                preserved_added w k inside (keep w k inside ∙ and_from (has_bit (preserved_word old w x) k) (has_bit (get_or through.preserved w 0) k)
+                (sym (ap (λ (s : Summary W). has_bit (get_or s.preserved w 0) k) still) ∙ has)
+                ((some_preserved w k inside).1
+                (site, y, there, at_exit, sym (ap (λ (s : Summary W). has_bit (get_or s.preserved w 0) k) left) ∙ passes))),
+            λ k low at_x at_exit either. generated_added w k inside (make w k inside ∙ new_bit (has_bit (get_or through.generated w 0) k)
+                (has_bit (generated_word old w x) k) (has_bit (get_or through.preserved w 0) k) (elim either [
+                  | inl callee ↦ inl ((some_generated w k inside).1
+                      (site, y, there, at_exit, sym (ap (λ (s : Summary W). has_bit (get_or s.generated w 0) k) left) ∙ callee))
+                  | inr before ↦ inr (
+                    sym (ap (λ (s : Summary W). has_bit (get_or s.generated w 0) k) still) ∙ before.0,
+                    (some_preserved w k inside).1
+                        (site, y, there, at_exit, sym (ap (λ (s : Summary W). has_bit (get_or s.preserved w 0) k) left) ∙ before.1),
+                  )
+                ])),
+          ))
+        ]
+      ]
 
-  -- a call whose callee's exit has no path is settled
-  pub call_blocked : (site x y : ℕ) (table : List (Summary W)) (dirty : List Bool) → (IsFlagged paths (exit_of group.shape y) → ⊥)
-      → IsSummarySettled group paths table dirty (Call site x y)
-  call_blocked site x y table dirty never =
-      inl (λ w inside. (λ k low at_x at_exit has passes. absurd (never at_exit), λ k low at_x at_exit either. absurd (never at_exit)))
-
-  -- the edges of a point without a path are
+  -- the edges of a point without a path are settled
   pub settled_off_path : (edge : Edge) (table : List (Summary W)) (dirty : List Bool) → (IsFlagged paths (source_of edge) → ⊥)
       → IsSummarySettled group paths table dirty edge
   settled_off_path (Step x y) table dirty never =
@@ -227,55 +225,17 @@ module _ {W : ℕ} (group : Group) (paths : List Bool) where
       inl (λ w inside. (λ k low at_x at_exit has passes. absurd (never at_x), λ k low at_x at_exit either. absurd (never at_x)))
   settled_off_path (Ret site x y) table dirty never = inl (λ w inside. (tt, tt))
 
-  -- the edges that wait for a point are its steps and calls, and the calls that are left there
-  pub by_waits : (table : List (Summary W)) (dirty : List Bool) (at : ℕ)
+  -- the edges from a point are its steps, its calls and its returns, which are closed
+  pub by_edges : (table : List (Summary W)) (dirty : List Bool) (at : ℕ)
       → ((y : ℕ) → IsEdge group.shape (Step at y) → IsSummarySettled group paths table dirty (Step at y))
       → ((site y : ℕ) → IsEdge group.shape (Call site at y) → IsSummarySettled group paths table dirty (Call site at y))
-      → ((site x y : ℕ) → IsEdge group.shape (Call site x y) → exit_of group.shape y ≡ at → IsSummarySettled group paths table dirty (Call site x y))
-      → (edge : Edge) → IsEdge group.shape edge → WaitsFor group.shape edge at → IsSummarySettled group paths table dirty edge
-  by_waits table dirty at steps calls callers (Step x y) there same =
+      → (edge : Edge) → IsEdge group.shape edge → source_of edge ≡ at → IsSummarySettled group paths table dirty edge
+  by_edges table dirty at steps calls (Step x y) there same =
       subst (λ n. IsSummarySettled group paths table dirty (Step n y)) (sym same) (steps y (subst (λ n. IsEdge group.shape (Step n y)) same there))
-  by_waits table dirty at steps calls callers (Call site x y) there (inl same) =
+  by_edges table dirty at steps calls (Call site x y) there same =
       subst (λ n. IsSummarySettled group paths table dirty (Call site n y)) (sym same)
       (calls site y (subst (λ n. IsEdge group.shape (Call site n y)) same there))
-  by_waits table dirty at steps calls callers (Call site x y) there (inr left) = callers site x y there left
-  by_waits table dirty at steps calls callers (Ret site x y) there waits = absurd waits
-
-  -- those that wait for a point without a path are settled
-  pub off_path : (table : List (Summary W)) (dirty : List Bool) (at : ℕ) → (IsFlagged paths at → ⊥)
-      → (edge : Edge) → IsEdge group.shape edge → WaitsFor group.shape edge at → IsSummarySettled group paths table dirty edge
-  off_path table dirty at never (Step x y) there same =
-      settled_off_path (Step x y) table dirty (λ flagged. never (subst (IsFlagged paths) same flagged))
-  off_path table dirty at never (Call site x y) there (inl same) =
-      settled_off_path (Call site x y) table dirty (λ flagged. never (subst (IsFlagged paths) same flagged))
-  off_path table dirty at never (Call site x y) there (inr left) =
-      call_blocked site x y table dirty (λ flagged. never (subst (IsFlagged paths) left flagged))
-  off_path table dirty at never (Ret site x y) there waits = absurd waits
-
-  -- a mark that is taken leaves each edge settled but those that wait for its point
-  pub waits_but : (table : List (Summary W)) (dirty : List Bool) (at : ℕ) (edge : Edge) → IsSummarySettled group paths table dirty edge
-      → WaitsFor group.shape edge at ⊎ IsSummarySettled group paths table (set dirty at false) edge
-  waits_but table dirty at edge (inl closed) = inr (inl closed)
-  waits_but table dirty at edge (inr waits) = elim (cases_eq waits.0 at) [
-    | inl same ↦ inl (subst (WaitsFor group.shape edge) same waits.1)
-    | inr other ↦ inr (inr (waits.0, waits.1, get_or-set_other dirty at waits.0 false false other ∙ waits.2))
-  ]
-
-  -- where all is to be visited, each edge is settled
-  pub all_wait : (table : List (Summary W)) (dirty : List Bool) → ((edge : Edge) → IsEdge group.shape edge → IsMarked dirty (source_of edge))
-      → (edge : Edge) → IsEdge group.shape edge → IsSummarySettled group paths table dirty edge
-  all_wait table dirty marked (Step x y) there = inr (x, refl, marked (Step x y) there)
-  all_wait table dirty marked (Call site x y) there = inr (x, inl refl, marked (Call site x y) there)
-  all_wait table dirty marked (Ret site x y) there = inl (λ w inside. (tt, tt))
-
-  -- where none is, each edge is closed
-  pub none_waits : (table : List (Summary W)) (dirty : List Bool)
-      → ((edge : Edge) → IsEdge group.shape edge → IsSummarySettled group paths table dirty edge) → AreClear dirty
-      → (edge : Edge) → IsEdge group.shape edge → IsSummaryClosedAt group paths table edge
-  none_waits table dirty settled clear edge there = elim (settled edge there) [
-    | inl closed ↦ closed
-    | inr waits ↦ let none : get_or dirty waits.0 false ≡ false = clear waits.0 in let marked = waits.2 in absurd (cc)
-  ]
+  by_edges table dirty at steps calls (Ret site x y) there same = inl (λ w inside. (tt, tt))
 
 -- what a summary that is put does, where its point is marked
 module _ {W : ℕ} (group : Group) (paths : List Bool) (table : List (Summary W)) (dirty dirty_after : List Bool) (at : ℕ)
@@ -291,40 +251,26 @@ module _ {W : ℕ} (group : Group) (paths : List Bool) (table : List (Summary W)
   here_generated : AreJoined group.width (summary_at table at).generated more.generated after.generated
   here_generated = subst (λ (s : Summary W). AreJoined group.width s.generated more.generated after.generated) here generated
 
-  pub put_same : IsMarked dirty_after at → AreSameBut at table (set table at after) dirty_after
-  put_same marked x = elim (cases_eq x at) [
-    | inl same ↦ inr (same, marked)
+  pub put_same : IsWoken group.shape dirty_after at → AreSameBut group.shape at table (set table at after) dirty_after
+  put_same woken x = elim (cases_eq x at) [
+    | inl same ↦ inr (same, woken)
     | inr other ↦ inl (unwritten group.width table at more after within here_preserved here_generated x other)
   ]
 
-  pub put_spreads : length dirty_after ≡ length dirty → ((x : ℕ) → IsMarked dirty x → IsMarked dirty_after x) → IsMarked dirty_after at
+  pub put_spreads : length dirty_after ≡ length dirty → ((x : ℕ) → IsMarked dirty x → IsMarked dirty_after x) → IsWoken group.shape dirty_after at
       → room_of_summary after < room_of_summary before
       → AreOf group (IsPreserved group.shape) more.preserved at → AreOf group (IsGenerated group.shape) more.generated at
       → SummarySpreads group paths table dirty (set table at after) dirty_after
-  put_spreads count keeps marked less are_preserved are_generated =
+  put_spreads count keeps woken less are_preserved are_generated =
       let grows = put_grows group.width table at more after within here_preserved here_generated in
       record {
         count = count;
         grows = grows;
-        settled = put_settled group paths table (set table at after) dirty dirty_after at grows keeps (put_same marked);
+        settled = put_settled group paths table (set table at after) dirty dirty_after at grows keeps (put_same woken);
         progress = inr (put_less group.width table at more after within here_preserved here_generated
             (subst (λ (s : Summary W). room_of_summary after < room_of_summary s) here less));
         sound = put_sound group table at more after within here_preserved here_generated are_preserved are_generated;
       }
-
--- what is settled of a caller stays so
-pub caller_settled_more : {W : ℕ} (group : Group) (paths : List Bool) (exit : ℕ) (t0 : List (Summary W)) (d0 : List Bool) (t1 : List (Summary W))
-    (d1 : List Bool) (x : ℕ)
-    → SummarySpreads group paths t0 d0 t1 d1 → IsCallerSettled group paths exit t0 d0 x → IsCallerSettled group paths exit t1 d1 x
-caller_settled_more group paths exit t0 d0 t1 d1 x spreads is =
-    record { settled = λ site y there left. spreads.settled (Call site x y) there (is.settled site y there left) }
-
--- what a call's link tells of stays settled
-pub call_settled_more : {W : ℕ} (group : Group) (paths : List Bool) (at : ℕ) (t0 : List (Summary W)) (d0 : List Bool) (t1 : List (Summary W))
-    (d1 : List Bool) (link : CallLink) → SummarySpreads group paths t0 d0 t1 d1
-    → IsSummaryCallSettled group paths at t0 d0 link → IsSummaryCallSettled group paths at t1 d1 link
-call_settled_more group paths at t0 d0 t1 d1 link spreads is =
-    record { settled = λ site y there exit after. spreads.settled (Call site at y) there (is.settled site y there exit after) }
 
 -- a summary of few words has a size
 pub has_size : (W : ℕ) → W ≤ 8 → up 8 (up 8 (0 + W * 8) + W * 8) < 9223372036854775808

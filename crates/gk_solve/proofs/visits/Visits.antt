@@ -104,22 +104,8 @@ settled_but Closed from table dirty at edge settled = elim (cases_eq (from edge)
   ])
 ]
 
--- after a visit each edge is settled, where each was before, those that waited for the visited point are now, and no other waits for it
-pub visit_settles : {Table : Type 0} {room : Table → ℕ} {Grows : Table → Table → Type 0} {Settled : Table → List Bool → Edge → Type 0}
-    {Sound : Table → Type 0} {shape : Shape}
-    (Waits : Edge → Type 0) (table : Table) (dirty : List Bool) (table_after : Table) (dirty_between dirty_after : List Bool) (at : ℕ)
-    → dirty_between ≡ set dirty at false
-    → Spreads room Grows Settled Sound shape table dirty_between table_after dirty_after
-    → ((edge : Edge) → Settled table dirty edge → Waits edge ⊎ Settled table (set dirty at false) edge)
-    → ((edge : Edge) → IsEdge shape edge → Waits edge → Settled table_after dirty_after edge)
-    → ((edge : Edge) → IsEdge shape edge → Settled table dirty edge) → (edge : Edge) → IsEdge shape edge → Settled table_after dirty_after edge
-visit_settles {Settled = Settled} Waits table dirty table_after dirty_between dirty_after at taken spreads but visited before edge there =
-    elim (but edge (before edge there)) [
-      | inl waits ↦ visited edge there waits
-      | inr still ↦ spreads.settled edge there (subst (λ (d : List Bool). Settled table d edge) (sym taken) still)
-    ]
-
--- the same of edges that wait for the point that they leave, or its procedure
+-- after a visit each edge is settled, where each was before, those that wait for the visited point are now, and no other waits for it: an edge
+-- waits for the point that it leaves, or its procedure
 pub visit_settles_from : {Table : Type 0} {room : Table → ℕ} {Grows : Table → Table → Type 0} {Sound : Table → Type 0} {shape : Shape}
     (Closed : Table → Edge → Type 0) (from : Edge → ℕ)
     (table : Table) (dirty : List Bool) (table_after : Table) (dirty_between dirty_after : List Bool) (at : ℕ) → dirty_between ≡ set dirty at false
@@ -127,6 +113,8 @@ pub visit_settles_from : {Table : Type 0} {room : Table → ℕ} {Grows : Table 
     → ((edge : Edge) → IsEdge shape edge → from edge ≡ at → IsSettled Closed from table_after dirty_after edge)
     → ((edge : Edge) → IsEdge shape edge → IsSettled Closed from table dirty edge) → (edge : Edge) → IsEdge shape edge
     → IsSettled Closed from table_after dirty_after edge
-visit_settles_from Closed from table dirty table_after dirty_between dirty_after at taken spreads visited before =
-    visit_settles {Settled = IsSettled Closed from} (λ edge. from edge ≡ at) table dirty table_after dirty_between dirty_after at taken spreads
-    (λ edge is. settled_but Closed from table dirty at edge is) visited before
+visit_settles_from Closed from table dirty table_after dirty_between dirty_after at taken spreads visited before edge there =
+    elim (settled_but Closed from table dirty at edge (before edge there)) [
+      | inl waits ↦ visited edge there waits
+      | inr still ↦ spreads.settled edge there (subst (λ (d : List Bool). IsSettled Closed from table d edge) (sym taken) still)
+    ]
