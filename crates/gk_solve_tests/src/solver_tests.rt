@@ -452,3 +452,32 @@ fn callees_come_first_though_their_ends_come_late(rt: HostRuntime) -> Result<(),
     assert!(rt; for_all <= for_flags + 2 * points);
     Ok(())
 }
+
+/// How many procedures may each call the next one and the one before.
+const NEIGHBOURS: u32 = 60;
+
+fn write_neighbours(text: &mut String) -> Result<(), OutOfMemory> {
+    text.push_str("proc main\ncall p0\nend\n")?;
+    for number in 0..NEIGHBOURS {
+        let next = (number + 1).min(NEIGHBOURS - 1);
+        let before = number.saturating_sub(1);
+        write!(
+            text,
+            "proc p{number}\nif c goto a\ncall p{next}\na: if c goto b\ncall p{before}\nb: v{number} = 1\nend\n"
+        )?;
+    }
+    Ok(())
+}
+
+/// What the last one makes comes to the first one, and the other way round, in a round up and a round down, and a third one finds nothing
+/// new: the rounds' number does not go with the procedures'.
+#[test]
+fn rounds_go_up_and_down(rt: HostRuntime) -> Result<(), Fail> {
+    let mut text = String::new(rt.alloc());
+    write_neighbours(&mut text)?;
+    let visits = visits(rt.alloc(), text.as_bytes())?;
+    let (for_flags, for_all) = visits.expect(&rt, "a graph");
+    let points = 2 + 6 * u64::from(NEIGHBOURS);
+    assert!(rt; for_all <= for_flags + 4 * points);
+    Ok(())
+}

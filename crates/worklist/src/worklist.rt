@@ -1,5 +1,5 @@
 // A set of points, kept in words of 64 bits by their ranks, from which one is taken at a time.
-ghost use Rattle.std.specs.Prelude.{◌≡◌, ℕ, ◌+◌, ◌*◌, ◌<◌, ◌≤◌, ◌^◌, IfOk, MatchOption, IfSome, false, true, length, replicate, slice_index};
+ghost use Rattle.std.specs.Prelude.{◌≡◌, ℕ, ◌+◌, ◌*◌, ◌/◌, ◌<◌, ◌≤◌, ◌^◌, IfOk, MatchOption, IfSome, false, true, length, replicate, slice_index};
 ghost use Rattle.std.specs.Prelude.{slice_index_or, slice_set};
 ghost use Rattle.worklist.specs.Worklist.{IsMarked, AreClear};
 ghost use Rattle.worklist.specs.Tables.MarkWords.{AreFull, is_marked_in};
@@ -10,6 +10,18 @@ use bit_rows::{low_ones, words_for};
 use std::alloc::Global;
 use std::marker::Model;
 
+// Where the next point is looked for.
+#[derive(Clone, Copy)]
+struct Position {
+    // The rank from which on.
+    next: usize,
+    // The part in which the last one stood, and the whole.
+    part: Ranks,
+    whole: Ranks,
+    // Whether the whole's parts are gone over from below.
+    rises: bool,
+}
+
 /// A set of points, from which one is taken at a time. It is seen as a list that tells for each point whether it is marked.
 ///
 /// It has a copy of the order by which they are taken. The parts of the order are taken up again, one by one, until none of their
@@ -17,9 +29,7 @@ use std::marker::Model;
 pub struct Worklist {
     order: Order,
     words: Vec<u64>,
-    next: usize,
-    part: Ranks,
-    whole: Ranks,
+    position: Position,
     taken: u64,
 }
 
@@ -40,9 +50,7 @@ impl Drop for Worklist {
         let Worklist {
             order: _,
             words: _,
-            next: _,
-            part: _,
-            whole: _,
+            position: _,
             taken: _,
         } = self;
     }
@@ -82,41 +90,118 @@ fn lowest_marked(words: &[u64]) -> Option<usize>
     None
 }
 
-// A marked rank in the first of these places that has one, else the lowest of all.
-fn marked_elsewhere(words: &[u64], places: &[(usize, usize)]) -> Option<usize>
-    requires few { length words.now ≤ 2 ^ 25 }
-    ensures { MatchOption result
-        ((k : ℕ) → k < length words.now → slice_index words.now k ≡ 0)
-        (λ rank. is_marked_in words.now rank ≡ true) }
+// Whether a rank is marked.
+fn is_marked(words: &[u64], rank: usize) -> bool
+    requires { rank / 64 < length words.now }
+    ensures { result ≡ is_marked_in words.now rank }
 {
-    for (from, to) in places {
-        if let Some(rank) = first_marked(words, *from, *to) {
-            return Some(rank);
-        }
-    }
-    lowest_marked(words)
+    let word = words[rank / 64];
+    (word >> (rank % 64)) & 1 == 1
 }
 
-// The next marked rank: from one on in its part, else before it there; else behind this part in its whole, else before it there; else
-// behind this whole, and before it.
-#[inline(always)]
-fn next_marked(words: &[u64], from: usize, part: Ranks, whole: Ranks) -> Option<usize>
+// The last marked rank before one, if it is not below a limit.
+fn last_marked(words: &[u64], from: usize, to: usize) -> Option<usize>
+    requires few { length words.now ≤ 2 ^ 25 }
+    ensures { IfSome result (λ rank. is_marked_in words.now rank ≡ true) }
+{
+    let end = words.len().min(to.div_ceil(64));
+    for back in 0..end.saturating_sub(from / 64) {
+        let at = end - 1 - back;
+        let word = words[at] & low_ones(to.saturating_sub(64 * at).min(64) as u32);
+        if word != 0 {
+            let rank = 64 * at + 63usize.saturating_sub(word.leading_zeros() as usize);
+            let found = rank >= from && is_marked(words, rank);
+            return if found { Some(rank) } else { None };
+        }
+    }
+    None
+}
+
+// A marked rank of the whole outside the part: the next above where ranks rise, the next below where they fall, else on the other side.
+fn marked_beside(words: &[u64], position: Position) -> Option<usize>
+    requires few { length words.now ≤ 2 ^ 25 }
+    ensures { IfSome result (λ rank. is_marked_in words.now rank ≡ true) }
+{
+    let Position {
+        next: _,
+        part,
+        whole,
+        rises,
+    } = position;
+    if rises {
+        match first_marked(words, part.end, whole.end) {
+            Some(rank) => Some(rank),
+            None => last_marked(words, whole.start, part.start),
+        }
+    } else {
+        match last_marked(words, whole.start, part.start) {
+            Some(rank) => Some(rank),
+            None => first_marked(words, part.end, whole.end),
+        }
+    }
+}
+
+// A marked rank outside the part: of its whole, else behind that, else the lowest of all.
+fn marked_elsewhere(words: &[u64], position: Position) -> Option<usize>
     requires few { length words.now ≤ 2 ^ 25 }
     ensures { MatchOption result
         ((k : ℕ) → k < length words.now → slice_index words.now k ≡ 0)
         (λ rank. is_marked_in words.now rank ≡ true) }
 {
-    match first_marked(words, from, part.end) {
+    if let Some(rank) = marked_beside(words, position) {
+        return Some(rank);
+    }
+    match first_marked(words, position.whole.end, usize::MAX) {
         Some(rank) => Some(rank),
-        None => marked_elsewhere(
-            words,
-            &[
-                (part.start, from),
-                (part.end, whole.end),
-                (whole.start, part.start),
-                (whole.end, usize::MAX),
-            ],
-        ),
+        None => lowest_marked(words),
+    }
+}
+
+// The lowest marked rank of a part in which one stands.
+fn lowest_in(words: &[u64], part: Ranks, rank: usize) -> usize
+    requires few { length words.now ≤ 2 ^ 25 }
+    requires marked { is_marked_in words.now rank ≡ true }
+    ensures { is_marked_in words.now result ≡ true }
+{
+    match first_marked(words, part.start, part.end) {
+        Some(lowest) => lowest,
+        None => rank,
+    }
+}
+
+// The lowest marked rank of the next part that has one.
+fn first_elsewhere(words: &[u64], order: &Order, position: Position) -> Option<usize>
+    requires few { length words.now ≤ 2 ^ 25 }
+    ensures { MatchOption result
+        ((k : ℕ) → k < length words.now → slice_index words.now k ≡ 0)
+        (λ rank. is_marked_in words.now rank ≡ true) }
+{
+    match marked_elsewhere(words, position) {
+        Some(rank) => Some(lowest_in(words, order.part_around(rank), rank)),
+        None => None,
+    }
+}
+
+// The next marked rank: from one on in its part, else before it there, else in another part.
+#[inline(always)]
+fn next_marked(words: &[u64], order: &Order, position: Position) -> Option<usize>
+    requires few { length words.now ≤ 2 ^ 25 }
+    ensures { MatchOption result
+        ((k : ℕ) → k < length words.now → slice_index words.now k ≡ 0)
+        (λ rank. is_marked_in words.now rank ≡ true) }
+{
+    let Position {
+        next,
+        part,
+        whole: _,
+        rises: _,
+    } = position;
+    if let Some(rank) = first_marked(words, next, part.end) {
+        return Some(rank);
+    }
+    match first_marked(words, part.start, next) {
+        Some(rank) => Some(rank),
+        None => first_elsewhere(words, order, position),
     }
 }
 
@@ -140,9 +225,12 @@ impl Worklist {
         Ok(Worklist {
             order: order.copy(alloc)?,
             words: vec![in alloc; 0u64; words_for(points) as usize]?,
-            next: 0,
-            part: Ranks::none(),
-            whole: Ranks::none(),
+            position: Position {
+                next: 0,
+                part: Ranks::none(),
+                whole: Ranks::none(),
+                rises: true,
+            },
             taken: 0,
         })
     }
@@ -159,17 +247,6 @@ impl Worklist {
         self.taken
     }
 
-    /// Whether a point is in the set.
-    #[inline(always)]
-    pub fn contains(&self, point: usize) -> bool
-        requires { point < length self.now }
-        ensures { result ≡ slice_index_or self.now point false }
-    {
-        let rank = self.order.rank(point);
-        let word = self.words[rank / 64];
-        (word >> (rank % 64)) & 1 == 1
-    }
-
     /// Puts a point into the set.
     pub fn mark(&mut self, point: usize)
         requires { point < length self.old }
@@ -180,12 +257,22 @@ impl Worklist {
         self.words[at] |= 1 << (rank % 64);
     }
 
-    // Goes into the part and the whole around a rank.
+    // Goes into the part and the whole around a rank, and notes whether ranks rise.
     fn go_around(&mut self, rank: usize)
         ensures { self.new ≡ self.old }
     {
-        self.part = self.order.part_around(rank);
-        self.whole = self.order.whole_around(rank);
+        let Position {
+            next: _,
+            part,
+            whole,
+            rises: _,
+        } = self.position;
+        self.position = Position {
+            next: rank.saturating_add(1),
+            part: self.order.part_around(rank),
+            whole: self.order.whole_around(rank),
+            rises: rank >= part.end || !whole.has(rank),
+        };
     }
 
     // Goes behind a rank, and where it leads out of the part, into the part around it.
@@ -193,8 +280,9 @@ impl Worklist {
     fn go_behind(&mut self, rank: usize)
         ensures { self.new ≡ self.old }
     {
-        self.next = rank.saturating_add(1);
-        if !self.part.has(rank) {
+        if self.position.part.has(rank) {
+            self.position.next = rank.saturating_add(1);
+        } else {
             self.go_around(rank);
         }
     }
@@ -205,11 +293,11 @@ impl Worklist {
     {
         let points = self.order.points() as usize;
         fill_words(self.words.as_mut_slice(), points);
-        self.next = 0;
+        self.position.next = 0;
     }
 
     /// Takes out a point: one of the part in which the last one stood, as long as there is one, and else of the whole around it. In a
-    /// part ranks rise, and from its end on it is gone over again.
+    /// part ranks rise, and from its end on it is gone over again. A whole is gone over part by part, up and down by turns.
     #[inline(always)]
     pub fn take(&mut self) -> Option<usize>
         ensures { MatchOption result
@@ -217,7 +305,7 @@ impl Worklist {
             (λ point. IsMarked self.old point × (self.new ≡ slice_set self.old point false)) }
     {
         let words = self.words.as_slice();
-        let rank = match next_marked(words, self.next, self.part, self.whole) {
+        let rank = match next_marked(words, &self.order, self.position) {
             Some(rank) => rank,
             None => return None,
         };
