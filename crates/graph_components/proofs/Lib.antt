@@ -1,0 +1,2 @@
+pub mod searches
+pub mod walks

@@ -1,0 +1,4 @@
+pub mod Inner
+pub mod Numbered
+pub mod Walks
+pub mod Within

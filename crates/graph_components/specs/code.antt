@@ -1,0 +1,4 @@
+pub mod Found
+pub mod Levels
+pub mod Marks
+pub mod Targets
