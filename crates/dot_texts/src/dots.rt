@@ -12,9 +12,9 @@ ghost use Rattle.flow_views.specs.ViewTables.{AreViewTables};
 ghost use Rattle.flow_views.specs.code.ViewProgram.{AreShown, AreShownProcedures, IsShownPoint, IsShownProcedure, IsShownTable, IsEndIn};
 ghost use Rattle.flow_views.specs.code.ViewProgram.{known_of, numbers_of};
 ghost use Rattle.flow_views.specs.declared.names.NameForm.TheVariants.{Escaped};
-ghost use Rattle.flow_views.specs.Dots.{IsDot, across, all_clusters, arrow, behind_if, cluster, edge_line, edge_lines, fact_lines, facts_in_lines, head};
+ghost use Rattle.flow_views.specs.Dots.{IsDot, across, all_clusters_of, arrow, behind_if, cluster_of, edge_line, edge_lines, fact_lines, facts_in_lines, head};
 ghost use Rattle.flow_views.specs.Dots.{is_edge_shown, label_line, label_text, label_title, lines_on, node, node_body, open_dot, outcome_label};
-ghost use Rattle.flow_views.specs.Dots.{outcome_mark, passed_call, set_names, shown_clusters, shown_edge, text_if, title, told_on, tooltip};
+ghost use Rattle.flow_views.specs.Dots.{outcome_mark, passed_call, set_names, shown_clusters_of, shown_edge, text_if, title, told_on, tooltip};
 ghost use Rattle.point_sets.specs.SetLines.{columns};
 ghost use Rattle.point_sets.specs.Sets.{has_behind};
 ghost use Rattle.point_sets.specs.code.Lines.{set_from};
@@ -39,9 +39,9 @@ use tac_listing::write_escaped_number;
 use tac_program::{Label, Stmt};
 use text_pieces::{Pieces, Sink, Text, write_escaped, write_quoted};
 
-// A remark as a line of a label.
+/// A remark as a line of a label.
 #[derive(Clone, Copy)]
-struct DotLine;
+pub struct DotLine;
 
 impl RemarkForm for DotLine {
     ghost text = { λ _ program _ remark. label_line (remark_text program remark) };
@@ -60,8 +60,8 @@ impl RemarkForm for DotLine {
     }
 }
 
-// Writes an arrow from a point to a point.
-fn write_arrow<K: Sink>(out: &mut Pieces<'_, K>, source: u32, target: u32)
+/// Writes an arrow from a node to a node.
+pub fn write_arrow<K: Sink>(out: &mut Pieces<'_, K>, source: u32, target: u32)
     requires { CanWrite K.Sink out.old }
     ensures { Writes K.Sink out.old out.new (arrow source target) }
 {
@@ -71,8 +71,8 @@ fn write_arrow<K: Sink>(out: &mut Pieces<'_, K>, source: u32, target: u32)
     write_number(out, target);
 }
 
-// Writes what the text begins with.
-fn write_head<K: Sink>(out: &mut Pieces<'_, K>)
+/// Writes what a picture begins with.
+pub fn write_head<K: Sink>(out: &mut Pieces<'_, K>)
     requires { CanWrite K.Sink out.old }
     ensures { Writes K.Sink out.old out.new head }
 {
@@ -110,8 +110,8 @@ fn write_label_line<K: Sink>(
     out.write(b"\\l");
 }
 
-// Writes labels of a point, each as a line.
-fn write_label_lines<K: Sink>(
+/// Writes labels of a point, each as a line.
+pub fn write_label_lines<K: Sink>(
     shown: &ViewProgram<'_>,
     out: &mut Pieces<'_, K>,
     point: u32,
@@ -158,8 +158,10 @@ fn write_end_title<K: Sink>(shown: &ViewProgram<'_>, out: &mut Pieces<'_, K>, po
     write_escaped(out, shown.procedure_name(shown.scope(point).procedure));
 }
 
-// Writes the first line of a label.
-fn write_title<K: Sink>(shown: &ViewProgram<'_>, out: &mut Pieces<'_, K>, point: u32)
+/// Writes the line of a point's statement, or of a procedure's end, without what ends it.
+///
+/// The condition: it is one program that is shown, with this point.
+pub fn write_title<K: Sink>(shown: &ViewProgram<'_>, out: &mut Pieces<'_, K>, point: u32)
     requires ready { CanWrite K.Sink out.old }
     requires shown { AreShown shown.now }
     requires point { point < point_count shown.now.found.graph.now }
@@ -171,8 +173,11 @@ fn write_title<K: Sink>(shown: &ViewProgram<'_>, out: &mut Pieces<'_, K>, point:
     }
 }
 
-// Writes the set of an analysis on a side of a statement, behind so many signs of its first line.
-fn write_set_on<K: Sink>(
+/// Writes the set of an analysis on a side of a statement, behind so many signs of its first line.
+///
+/// The conditions: it is one program that is shown, with names as a picture has them; the table is one of its tables and the point is shown;
+/// a set of its own stands on that side, and the first line has less than 60 signs.
+pub fn write_set_on<K: Sink>(
     shown: &ViewProgram<'_>,
     out: &mut Pieces<'_, K>,
     table: &Table,
@@ -395,14 +400,19 @@ fn write_node<K: Sink>(shown: &ViewProgram<'_>, out: &mut Pieces<'_, K>, point: 
     out.write(b"];\n");
 }
 
-// Writes a procedure as a cluster.
-fn write_cluster<K: Sink>(shown: &ViewProgram<'_>, out: &mut Pieces<'_, K>, procedure: u32)
+// Writes a procedure as a cluster, with its points in a form.
+fn write_cluster<F: PointForm, K: Sink>(
+    form: &F,
+    shown: &ViewProgram<'_>,
+    out: &mut Pieces<'_, K>,
+    procedure: u32,
+)
     requires ready { CanWrite K.Sink out.old }
     requires shown { AreShown shown.now }
-    requires form { shown.now.names.form ≡ Escaped }
+    requires form { shown.now.names.form ≡ F.name_form form.now }
     requires procedure { procedure < length shown.now.found.graph.now.procedures }
     requires shows { IsShownProcedure shown.now.view.procedure procedure }
-    ensures { Writes K.Sink out.old out.new (cluster shown.now.found.graph.now (known_of shown.now) shown.now.view procedure) }
+    ensures { Writes K.Sink out.old out.new (cluster_of (F.text form.now shown.now) shown.now.found.graph.now procedure) }
 {
     out.write(b"  subgraph \"cluster_");
     write_number(out, procedure);
@@ -413,23 +423,28 @@ fn write_cluster<K: Sink>(shown: &ViewProgram<'_>, out: &mut Pieces<'_, K>, proc
     out.write(b"    label=");
     write_quoted(out, shown.procedure_name(procedure));
     out.write(b";\n");
-    shown.write_points(&DotNodes, out, procedure);
+    shown.write_points(form, out, procedure);
     out.write(b"  }\n");
 }
 
 // Writes the procedures that are shown.
-fn write_clusters<K: Sink>(shown: &ViewProgram<'_>, out: &mut Pieces<'_, K>, procedures: Numbers)
+fn write_clusters<F: PointForm, K: Sink>(
+    form: &F,
+    shown: &ViewProgram<'_>,
+    out: &mut Pieces<'_, K>,
+    procedures: Numbers,
+)
     requires ready { CanWrite K.Sink out.old }
     requires shown { AreShown shown.now }
-    requires form { shown.now.names.form ≡ Escaped }
+    requires form { shown.now.names.form ≡ F.name_form form.now }
     requires ordered { procedures.first ≤ procedures.end }
     requires procedures { procedures.end ≤ length shown.now.found.graph.now.procedures }
     requires shows { AreShownProcedures shown.now.view.procedure procedures }
     ensures { Writes K.Sink out.old out.new
-        (flat_map (cluster shown.now.found.graph.now (known_of shown.now) shown.now.view) (numbers_of procedures)) }
+        (flat_map (cluster_of (F.text form.now shown.now) shown.now.found.graph.now) (numbers_of procedures)) }
 {
     for procedure in procedures.first..procedures.end {
-        write_cluster(shown, out, procedure);
+        write_cluster(form, shown, out, procedure);
     }
 }
 
@@ -452,17 +467,22 @@ fn procedure_count(shown: &ViewProgram<'_>) -> u32
 }
 
 // Writes the clusters of all procedures, that of `main` first.
-fn write_all_clusters<K: Sink>(shown: &ViewProgram<'_>, out: &mut Pieces<'_, K>)
+fn write_all_clusters<F: PointForm, K: Sink>(
+    form: &F,
+    shown: &ViewProgram<'_>,
+    out: &mut Pieces<'_, K>,
+)
     requires ready { CanWrite K.Sink out.old }
     requires shown { AreShown shown.now }
-    requires form { shown.now.names.form ≡ Escaped }
+    requires form { shown.now.names.form ≡ F.name_form form.now }
     requires all { shown.now.view.procedure ≡ None }
-    ensures { Writes K.Sink out.old out.new (all_clusters shown.now.found.graph.now (known_of shown.now) shown.now.view) }
+    ensures { Writes K.Sink out.old out.new (all_clusters_of (F.text form.now shown.now) shown.now.found.graph.now) }
 {
     let main = main_procedure(shown);
     let end = procedure_count(shown);
-    write_cluster(shown, out, main);
+    write_cluster(form, shown, out, main);
     write_clusters(
+        form,
         shown,
         out,
         Numbers {
@@ -471,6 +491,7 @@ fn write_all_clusters<K: Sink>(shown: &ViewProgram<'_>, out: &mut Pieces<'_, K>)
         },
     );
     write_clusters(
+        form,
         shown,
         out,
         Numbers {
@@ -480,21 +501,30 @@ fn write_all_clusters<K: Sink>(shown: &ViewProgram<'_>, out: &mut Pieces<'_, K>)
     );
 }
 
-// Writes the clusters that are shown.
-fn write_shown_clusters<K: Sink>(shown: &ViewProgram<'_>, out: &mut Pieces<'_, K>)
+/// Writes the clusters that are shown, with the points of each in a form.
+///
+/// The conditions: it is one program that is shown, with names in this form.
+pub fn write_shown_clusters<F: PointForm, K: Sink>(
+    form: &F,
+    shown: &ViewProgram<'_>,
+    out: &mut Pieces<'_, K>,
+)
     requires ready { CanWrite K.Sink out.old }
     requires shown { AreShown shown.now }
-    requires form { shown.now.names.form ≡ Escaped }
-    ensures { Writes K.Sink out.old out.new (shown_clusters shown.now.found.graph.now (known_of shown.now) shown.now.view shown.now.view.procedure) }
+    requires form { shown.now.names.form ≡ F.name_form form.now }
+    ensures { Writes K.Sink out.old out.new
+        (shown_clusters_of (F.text form.now shown.now) shown.now.found.graph.now shown.now.view.procedure) }
 {
     match shown.view.procedure {
-        Some(procedure) => write_cluster(shown, out, procedure),
-        None => write_all_clusters(shown, out),
+        Some(procedure) => write_cluster(form, shown, out, procedure),
+        None => write_all_clusters(form, shown, out),
     }
 }
 
-// Writes the outcome by which a step is taken.
-fn write_outcome<K: Sink>(
+/// Writes the outcome by which a step is taken.
+///
+/// The condition: it is one program that is shown, with this point.
+pub fn write_outcome<K: Sink>(
     shown: &ViewProgram<'_>,
     out: &mut Pieces<'_, K>,
     source: u32,
@@ -538,8 +568,8 @@ fn write_across<K: Sink>(out: &mut Pieces<'_, K>, word: &[u8], line: u32)
     out.write(b"\"];\n");
 }
 
-// Writes the edge of a call or a return, with the line of the call.
-fn write_passage<K: Sink>(
+/// Writes the edge of a call or a return, with the line of the call.
+pub fn write_passage<K: Sink>(
     shown: &ViewProgram<'_>,
     out: &mut Pieces<'_, K>,
     source: u32,
@@ -569,8 +599,8 @@ fn write_edge<K: Sink>(shown: &ViewProgram<'_>, out: &mut Pieces<'_, K>, edge: E
     }
 }
 
-// Whether an edge is shown: of one procedure those that stay in it.
-fn shows_edge(shown: &ViewProgram<'_>, edge: Edge) -> bool
+/// Whether an edge is shown: of one procedure those that stay in it.
+pub fn shows_edge(shown: &ViewProgram<'_>, edge: Edge) -> bool
     requires { AreShown shown.now }
     ensures { result ≡ is_edge_shown shown.now.found.graph.now shown.now.view edge }
 {
@@ -607,8 +637,10 @@ fn write_shown_edges<K: Sink>(shown: &ViewProgram<'_>, out: &mut Pieces<'_, K>, 
     }
 }
 
-// Joins a call to the point behind it.
-fn write_passed_call<K: Sink>(shown: &ViewProgram<'_>, out: &mut Pieces<'_, K>, point: u32)
+/// Joins a call to the point behind it.
+///
+/// The condition: it is one program that is shown, with this point.
+pub fn write_passed_call<K: Sink>(shown: &ViewProgram<'_>, out: &mut Pieces<'_, K>, point: u32)
     requires ready { CanWrite K.Sink out.old }
     requires shown { AreShown shown.now }
     requires point { point < point_count shown.now.found.graph.now }
@@ -631,7 +663,7 @@ pub fn write_open_dot<K: Sink>(shown: &ViewProgram<'_>, out: &mut Pieces<'_, K>)
     ensures { Writes K.Sink out.old out.new (open_dot shown.now.found.graph.now (known_of shown.now) shown.now.view) }
 {
     write_head(out);
-    write_shown_clusters(shown, out);
+    write_shown_clusters(&DotNodes, shown, out);
     shown.write_all_points(&DotEdges, out);
     write_legend(out, shown.view.look.legend, shown.view.look.changes);
 }

@@ -1,7 +1,7 @@
 // The legend of a picture.
 
 ghost use Rattle.text_pieces.specs.Pieces.{CanWrite, Writes};
-ghost use Rattle.flow_views.specs.Dots.{legend, legend_edges, legend_facts, legend_nodes, text_if};
+ghost use Rattle.flow_views.specs.Dots.{legend, legend_begin, legend_edges, legend_facts, legend_marks, legend_nodes, text_if};
 
 use text_pieces::{Pieces, Sink};
 
@@ -20,17 +20,23 @@ fn write_legend_facts<K: Sink>(out: &mut Pieces<'_, K>, changes: bool)
     }
 }
 
-// Writes the legend's nodes.
-fn write_legend_nodes<K: Sink>(out: &mut Pieces<'_, K>, changes: bool)
+/// Writes what a legend begins with, up to what a node's lines of facts tell.
+pub fn write_legend_begin<K: Sink>(out: &mut Pieces<'_, K>)
     requires { CanWrite K.Sink out.old }
-    ensures { Writes K.Sink out.old out.new (legend_nodes changes) }
+    ensures { Writes K.Sink out.old out.new legend_begin }
 {
     out.write(
         b"  subgraph \"cluster_legend\" {\n    id=\"legend\";\n    class=\"legend\";\n    label=\"Legend\";\n    \
         node [class=\"legend\"];\n    edge [class=\"legend\"];\n    \
         legend0 [label=\"LABEL:\\lLINE: STATEMENT\\lremarks\\l",
     );
-    write_legend_facts(out, changes);
+}
+
+/// Writes its marks, behind what a node's lines of facts tell.
+pub fn write_legend_marks<K: Sink>(out: &mut Pieces<'_, K>)
+    requires { CanWrite K.Sink out.old }
+    ensures { Writes K.Sink out.old out.new legend_marks }
+{
     out.write(
         b"\"];\n    legend1 [label=\"never reached\", style=filled, fillcolor=grey80];\n    \
         legend2 [label=\"a variable may be used before it is set\", color=red, fontcolor=red];\n    \
@@ -42,8 +48,18 @@ fn write_legend_nodes<K: Sink>(out: &mut Pieces<'_, K>, changes: bool)
     );
 }
 
-// Writes the legend's edges.
-fn write_legend_edges<K: Sink>(out: &mut Pieces<'_, K>)
+// Writes the legend's nodes.
+fn write_legend_nodes<K: Sink>(out: &mut Pieces<'_, K>, changes: bool)
+    requires { CanWrite K.Sink out.old }
+    ensures { Writes K.Sink out.old out.new (legend_nodes changes) }
+{
+    write_legend_begin(out);
+    write_legend_facts(out, changes);
+    write_legend_marks(out);
+}
+
+/// Writes the legend's edges, and its end.
+pub fn write_legend_edges<K: Sink>(out: &mut Pieces<'_, K>)
     requires { CanWrite K.Sink out.old }
     ensures { Writes K.Sink out.old out.new legend_edges }
 {

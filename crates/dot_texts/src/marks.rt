@@ -8,7 +8,7 @@ use flow_views::PointMarks;
 use text_pieces::{Pieces, Sink, write_if};
 
 /// Writes what marks look like.
-pub(crate) fn write_look<K: Sink>(out: &mut Pieces<'_, K>, marks: PointMarks)
+pub fn write_look<K: Sink>(out: &mut Pieces<'_, K>, marks: PointMarks)
     requires { CanWrite K.Sink out.old }
     ensures { Writes K.Sink out.old out.new (look_of marks) }
 {

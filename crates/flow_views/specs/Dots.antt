@@ -139,12 +139,16 @@ node_body program known view point =
 abbrev pub node : Program → Knowledge → View → ℕ → List ℕ
 node program known view point = codes "    " ++ decimal point ++ node_body program known view point
 
-abbrev pub cluster : Program → Knowledge → View → ℕ → List ℕ
-cluster program known view procedure =
+-- a procedure's cluster, with what is written of its points
+abbrev pub cluster_of : (ℕ → List ℕ) → Program → ℕ → List ℕ
+cluster_of text program procedure =
     codes "  subgraph \"cluster_" ++ decimal procedure ++ codes "\" {\n"
     ++ codes "    id=\"procedure" ++ decimal procedure ++ codes "\";\n    class=\"procedure\";\n"
     ++ codes "    label=" ++ quoted (procedure_name program procedure) ++ codes ";\n"
-    ++ flat_map (node program known view) (points_in program procedure) ++ codes "  }\n"
+    ++ flat_map text (points_in program procedure) ++ codes "  }\n"
+
+abbrev pub cluster : Program → Knowledge → View → ℕ → List ℕ
+cluster program known view = cluster_of (node program known view) program
 
 abbrev pub arrow : ℕ → ℕ → List ℕ
 arrow source target = codes "  " ++ decimal source ++ codes " -> " ++ decimal target
@@ -189,17 +193,17 @@ abbrev pub edge_lines : Program → View → ℕ → List ℕ
 edge_lines program view point = flat_map (shown_edge program view) (edges_from program point) ++ passed_call program point
 
 -- the clusters of all procedures: that of `main` is drawn first
-abbrev pub all_clusters : Program → Knowledge → View → List ℕ
-all_clusters program known view =
-    cluster program known view (main_procedure program)
-    ++ flat_map (cluster program known view) (range_with_len 0 (main_procedure program))
-    ++ flat_map (cluster program known view)
+abbrev pub all_clusters_of : (ℕ → List ℕ) → Program → List ℕ
+all_clusters_of text program =
+    cluster_of text program (main_procedure program)
+    ++ flat_map (cluster_of text program) (range_with_len 0 (main_procedure program))
+    ++ flat_map (cluster_of text program)
     (range_with_len (main_procedure program + 1) (length program.procedures - (main_procedure program + 1)))
 
 -- that of one procedure, or those of all
-abbrev pub shown_clusters : Program → Knowledge → View → Option ℕ → List ℕ
-shown_clusters program known view (Some procedure) = cluster program known view procedure
-shown_clusters program known view None = all_clusters program known view
+abbrev pub shown_clusters_of : (ℕ → List ℕ) → Program → Option ℕ → List ℕ
+shown_clusters_of text program (Some procedure) = cluster_of text program procedure
+shown_clusters_of text program None = all_clusters_of text program
 
 -- A legend: what a node's lines tell, each mark with its words, one below the other, and each arrow leads to its own.
 abbrev pub legend_facts : Bool → List ℕ
@@ -240,7 +244,7 @@ legend changes = legend_nodes changes ++ legend_edges
 -- the picture, with and without the line that ends it
 abbrev pub open_dot : Program → Knowledge → View → List ℕ
 open_dot program known view =
-    head ++ shown_clusters program known view view.procedure
+    head ++ shown_clusters_of (node program known view) program view.procedure
     ++ flat_map (edge_lines program view) (shown_points program view) ++ text_if view.look.legend (legend view.look.changes)
 
 abbrev pub dot_of : Program → Knowledge → View → List ℕ

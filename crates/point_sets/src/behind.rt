@@ -14,8 +14,8 @@ use flow_graph::{Analysis, Edge, Expr, Graph, target};
 use flow_team::Table;
 use tac_program::Operand;
 
-// Whether a number is the one that is told, if any is.
-fn is_number(told: Option<u32>, number: u32) -> bool
+/// Whether a number is the one that is told, if any is.
+pub fn is_number(told: Option<u32>, number: u32) -> bool
     ensures { result ≡ marks told number }
 {
     match told {
@@ -35,16 +35,16 @@ fn written(graph: &Graph<'_>, point: u32) -> Option<u32>
     }
 }
 
-// Whether the statement at a point writes a variable.
-fn writes(graph: &Graph<'_>, point: u32, variable: u32) -> bool
+/// Whether the statement at a point writes a variable.
+pub fn writes(graph: &Graph<'_>, point: u32, variable: u32) -> bool
     requires { point < point_count graph.now }
     ensures { result ≡ writes graph.now point variable }
 {
     is_number(written(graph, point), variable)
 }
 
-// Whether a definition is the one of the statement at a point.
-fn is_made_at(point: u32, definition: (u32, Option<u32>)) -> bool
+/// Whether a definition is the one of the statement at a point.
+pub fn is_made_at(point: u32, definition: (u32, Option<u32>)) -> bool
     ensures { result ≡ is_made_at point definition }
 {
     is_number(definition.1, point)
@@ -60,8 +60,8 @@ fn passes_reach(graph: &Graph<'_>, point: u32, bit: u32, before: bool) -> bool
     is_made_at(point, definition) || (before && !writes(graph, point, definition.0))
 }
 
-// Whether an operand is a variable.
-fn names_variable(variable: u32, operand: Operand) -> bool
+/// Whether an operand is a variable.
+pub fn names_variable(variable: u32, operand: Operand) -> bool
     ensures { result ≡ names_variable variable operand }
 {
     match operand {
@@ -82,8 +82,8 @@ fn has_operand(expression: Expr, variable: u32) -> bool
     }
 }
 
-// Whether the statement at a point writes an operand of an expression.
-fn changes(graph: &Graph<'_>, point: u32, expression: Expr) -> bool
+/// Whether the statement at a point writes an operand of an expression.
+pub fn changes(graph: &Graph<'_>, point: u32, expression: Expr) -> bool
     requires { point < point_count graph.now }
     ensures { result ≡ changes graph.now point expression }
 {

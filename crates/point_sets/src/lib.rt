@@ -7,7 +7,8 @@ mod lines;
 mod point_set;
 mod side;
 
-pub use behind::target_of;
+pub use behind::{changes, is_made_at, is_number, names_variable, target_of, writes};
 pub use change::{Change, came_text};
-pub use point_set::{PointSet, write_point_set};
+pub use lines::Line;
+pub use point_set::{PointSet, is_bit_shown, write_point_set};
 pub use side::{Side, calls_at, has_behind, side_text};

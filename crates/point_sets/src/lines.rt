@@ -9,9 +9,11 @@ use text_pieces::{Pieces, Sink};
 
 /// A line that is being written: how many signs it has, and whether a name stands on it.
 #[derive(Clone, Copy)]
-pub(crate) struct Line {
-    pub(crate) column: usize,
-    pub(crate) others: bool,
+pub struct Line {
+    /// How many signs it has.
+    pub column: usize,
+    /// Whether a name stands on it.
+    pub others: bool,
 }
 
 // Whether a name of so many signs fits behind a column: 60 are the most, and `, ` stands before it and `,` behind it.
@@ -46,7 +48,9 @@ impl Line {
     }
 
     /// Writes a name, and answers on which line it stands.
-    pub(crate) fn write_name<K: Sink>(self, out: &mut Pieces<'_, K>, name: &[u8]) -> Line
+    ///
+    /// The condition: the first name's line has less than 60 signs before it.
+    pub fn write_name<K: Sink>(self, out: &mut Pieces<'_, K>, name: &[u8]) -> Line
         requires ready { CanWrite K.Sink out.old }
         requires column { self.others ≡ false → self.column < columns }
         ensures writes { Writes K.Sink out.old out.new (name_on self name.now) }

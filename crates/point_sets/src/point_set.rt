@@ -18,6 +18,27 @@ use flow_graph::{Analysis, Edge, Graph};
 use flow_team::Table;
 use text_pieces::{Pieces, Sink, TextBlock};
 
+// Whether a bit is one of the boundary's.
+fn is_entry(graph: &Graph<'_>, analysis: Analysis, bit: u32) -> bool
+    requires { bit < bits graph.now analysis }
+    ensures { result ≡ is_in_boundary graph.now analysis bit }
+{
+    match analysis {
+        Analysis::Reach => graph.definition(bit).1.is_none(),
+        Analysis::Live => false,
+        Analysis::Avail => false,
+        Analysis::Busy => false,
+    }
+}
+
+/// Whether a bit of an analysis is shown where it holds.
+pub fn is_bit_shown(graph: &Graph<'_>, analysis: Analysis, hides_entry: bool, bit: u32) -> bool
+    requires { bit < bits graph.now analysis }
+    ensures { result ≡ is_bit_shown graph.now analysis hides_entry bit }
+{
+    !(hides_entry && is_entry(graph, analysis, bit))
+}
+
 /// The set of a table at a point: before its statement, or behind it.
 #[derive(Clone, Copy)]
 pub struct PointSet<'a> {
@@ -65,27 +86,13 @@ impl PointSet<'_> {
         }
     }
 
-    // Whether a bit is one of the boundary's.
-    fn is_entry(&self, bit: u32) -> bool
-        requires bits { self.now.table.now.bits ≡ bits self.now.graph.now self.now.table.now.analysis }
-        requires bit { bit < self.now.table.now.bits }
-        ensures { result ≡ is_in_boundary self.now.graph.now self.now.table.now.analysis bit }
-    {
-        match self.table.analysis() {
-            Analysis::Reach => self.graph.definition(bit).1.is_none(),
-            Analysis::Live => false,
-            Analysis::Avail => false,
-            Analysis::Busy => false,
-        }
-    }
-
     // Whether a bit is shown where it holds.
     pub(crate) fn is_bit_shown(&self, bit: u32) -> bool
         requires bits { self.now.table.now.bits ≡ bits self.now.graph.now self.now.table.now.analysis }
         requires bit { bit < self.now.table.now.bits }
         ensures { result ≡ is_bit_shown self.now.graph.now self.now.table.now.analysis self.now.hides_entry bit }
     {
-        !(self.hides_entry && self.is_entry(bit))
+        is_bit_shown(self.graph, self.table.analysis(), self.hides_entry, bit)
     }
 
     // Whether a bit is shown.

@@ -23,8 +23,8 @@ use Rattle.flow_reports.proofs.knowledge.KnownReports.{Agree, same_dead, same_re
 use Rattle.flow_graph.proofs.graphs.GraphLaws.{graphs_are_well_formed}
 use Rattle.tac_program.specs.Programs.{Program}
 use Rattle.tac_program.specs.Sound.{IsSound}
-use Rattle.flow_views.specs.Dots.{all_clusters, behind_if, both_changed, cluster, dot_of, edge_lines, fact_lines, facts_in_lines, head, label_line, label_text, label_title}
-use Rattle.flow_views.specs.Dots.{legend, look_of, node, node_names, open_dot, shown_clusters, sides, text_if, title, told_on}
+use Rattle.flow_views.specs.Dots.{all_clusters_of, behind_if, both_changed, cluster_of, dot_of, edge_lines, fact_lines, facts_in_lines, head, label_line, label_text, label_title}
+use Rattle.flow_views.specs.Dots.{legend, look_of, node, node_names, open_dot, shown_clusters_of, sides, text_if, title, told_on}
 use Rattle.flow_views.specs.Json.{array, boolean, end_line, facts_field, json_of, json_with, point_edge, point_line, program_line, remark_object}
 use Rattle.flow_views.specs.Json.{span_fields, statement_field}
 use Rattle.text_pieces.specs.Strings.{quoted}
@@ -115,6 +115,42 @@ same_shown program None there f g same facts look =
     same_procedures program None f g same 0 (length program.procedures) (omega arith) (λ number low high. tt)
 same_shown program (Some procedure) there f g same facts look =
     same_procedures program (Some procedure) f g same procedure 1 (omega (arith, there)) (λ number low high. omega (arith, low, high))
+
+-- the clusters of procedures whose points have the same texts
+module _ (program : Program) (sound : IsSound program) (procedure : Option ℕ) (there : IfSome procedure (λ p. p < length program.procedures))
+    (f g : ℕ → List ℕ)
+    (same : (point : ℕ) → (first_shown program procedure ≤ point) × (point < end_shown program procedure) → f point ≡ g point) where
+  same_cluster : (number : ℕ) → number < length program.procedures → IsShownProcedure procedure number
+      → cluster_of f program number ≡ cluster_of g program number
+  same_cluster number below is = ap
+      (λ nodes. codes "  subgraph \"cluster_" ++ decimal number ++ codes "\" {\n"
+      ++ codes "    id=\"procedure" ++ decimal number ++ codes "\";\n    class=\"procedure\";\n"
+      ++ codes "    label=" ++ quoted (procedure_name program number) ++ codes ";\n"
+      ++ nodes ++ codes "  }\n")
+      (same_points program procedure f g same number below is)
+
+  -- those of all procedures, where none is named
+  same_all : procedure ≡ None → all_clusters_of f program ≡ all_clusters_of g program
+  same_all all =
+      let main : ℕ = main_procedure program in
+      let alike = λ (number : ℕ) (below : number < length program.procedures). same_cluster number below
+      (subst (λ (p : Option ℕ). IsShownProcedure p number) (sym all) tt) in
+      let inside : main < length program.procedures = (graphs_are_well_formed program sound).root_in_range in
+      let first = alike main inside in
+      let before = same_texts (cluster_of f program) (cluster_of g program) 0 main
+      (λ number from to. alike number (omega (arith, to, inside))) in
+      let behind = same_texts (cluster_of f program) (cluster_of g program) (main + 1) (length program.procedures - (main + 1))
+      (λ number from to. alike number (omega (arith, from, to, inside))) in
+      λ i. first i ++ before i ++ behind i
+
+  same_clusters : (p : Option ℕ) → procedure ≡ p → shown_clusters_of f program p ≡ shown_clusters_of g program p
+  same_clusters None is = same_all is
+  same_clusters (Some number) is =
+      same_cluster number (subst (λ (p : Option ℕ). IfSome p (λ n. n < length program.procedures)) is there)
+      (subst (λ (p : Option ℕ). IsShownProcedure p number) (sym is) refl)
+
+  pub same_shown_clusters : shown_clusters_of f program procedure ≡ shown_clusters_of g program procedure
+  same_shown_clusters = same_clusters procedure refl
 
 -- the bits of a set
 abbrev members : Program → Analysis → (ℕ → Bool) → List ℕ
@@ -212,7 +248,7 @@ module _ (program : Program) (sound : IsSound program) (one other : Knowledge) (
         ++ flat_map (λ remark. label_line (remark_text program remark)) (same_remarks program sound one other agree point below i)
         ++ text_if (not look.hovers) (same_facts i)
 
-    same_marks : marks_at program one point ≡ marks_at program other point
+    pub same_marks : marks_at program one point ≡ marks_at program other point
     same_marks = λ i. record {
       reached = agree.flags point below i;
       unset = agree.flags point below i && some_stand (same_unset program sound one other agree point below i);
@@ -226,40 +262,11 @@ module _ (program : Program) (sound : IsSound program) (one other : Knowledge) (
         ++ (node_names point (same_marks i) ++ same_label i ++ codes "\"" ++ text_if look.hovers (codes ", tooltip=\"" ++ same_facts i ++ codes "\"")
         ++ look_of (same_marks i) ++ codes "];\n")
 
-  same_cluster : (number : ℕ) → number < length program.procedures → IsShownProcedure procedure number
-      → cluster program one view number ≡ cluster program other view number
-  same_cluster number below is = ap
-      (λ nodes. codes "  subgraph \"cluster_" ++ decimal number ++ codes "\" {\n"
-      ++ codes "    id=\"procedure" ++ decimal number ++ codes "\";\n    class=\"procedure\";\n"
-      ++ codes "    label=" ++ quoted (procedure_name program number) ++ codes ";\n"
-      ++ nodes ++ codes "  }\n")
-      (same_points program procedure (node program one view) (node program other view) same_node number below is)
-
-  -- those of all procedures, where none is named
-  same_all : procedure ≡ None → all_clusters program one view ≡ all_clusters program other view
-  same_all all =
-      let main : ℕ = main_procedure program in
-      let same = λ (number : ℕ) (below : number < length program.procedures). same_cluster number below
-      (subst (λ (p : Option ℕ). IsShownProcedure p number) (sym all) tt) in
-      let inside : main < length program.procedures = (graphs_are_well_formed program sound).root_in_range in
-      let first = same main inside in
-      let before = same_texts (cluster program one view) (cluster program other view) 0 main
-      (λ number from to. same number (omega (arith, to, inside))) in
-      let behind = same_texts (cluster program one view) (cluster program other view) (main + 1) (length program.procedures - (main + 1))
-      (λ number from to. same number (omega (arith, from, to, inside))) in
-      λ i. first i ++ before i ++ behind i
-
-  same_clusters : (p : Option ℕ) → procedure ≡ p → shown_clusters program one view p ≡ shown_clusters program other view p
-  same_clusters None is = same_all is
-  same_clusters (Some number) is =
-      same_cluster number (subst (λ (p : Option ℕ). IfSome p (λ n. n < length program.procedures)) is there)
-      (subst (λ (p : Option ℕ). IsShownProcedure p number) (sym is) refl)
-
   -- the picture, without its last line and with it
   pub same_open : open_dot program one view ≡ open_dot program other view
   same_open =
       ap (λ clusters. head ++ clusters ++ flat_map (edge_lines program view) (shown_points program view) ++ text_if look.legend (legend look.changes))
-      (same_clusters procedure refl)
+      (same_shown_clusters program sound procedure there (node program one view) (node program other view) same_node)
 
   pub same_dot : dot_of program one view ≡ dot_of program other view
   same_dot = ap (λ text. text ++ codes "}\n") same_open

@@ -1,8 +1,7 @@
 use Rattle.std.proofs.Common.{◌≡◌, ◌∙◌, ℕ, ◌+◌, ◌-◌, List, ◌++◌, flat_map, length, ap, arith}
 use Rattle.std.specs.List.{range_with_len}
 use Rattle.text_pieces.proofs.sinks.Taking.{takes_as, takes_then}
-use Rattle.flow_views.specs.code.ViewProgram.{known_of}
-use Rattle.flow_views.specs.Dots.{cluster}
+use Rattle.flow_views.specs.Dots.{cluster_of}
 use Rattle.dot_texts.proofs.dots.write_all_clusters.Goals as goal
 
 pub write_clusters-requires-2-clause-ordered : goal.write_clusters-requires-2-clause-ordered
@@ -10,7 +9,7 @@ write_clusters-requires-2-clause-ordered g c = omega (arith, c.main_procedure-ma
 
 pub returns : goal.returns
 returns g c =
-    let text : ℕ → List ℕ = cluster c.args.shown.now.found.graph.now (known_of c.args.shown.now) c.args.shown.now.view in
+    let text : ℕ → List ℕ = cluster_of (g.F.PointForm.text c.args.form.now c.args.shown.now) c.args.shown.now.found.graph.now in
     let main : ℕ = c.main_procedure-main.result in
     let all : main - 0 ≡ main = omega arith in
     takes_as _ _ _ _ (takes_then _ _ _ _ _ (takes_then _ _ _ _ _ c.write_cluster.ensures c.write_clusters.ensures) c.write_clusters-2.ensures)

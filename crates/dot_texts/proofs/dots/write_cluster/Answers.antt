@@ -1,8 +1,6 @@
 use Rattle.std.proofs.Common.{List, ℕ, ◌++◌, codes, decimal, flat_map, ap}
 use Rattle.text_pieces.proofs.sinks.Taking.{takes_as, takes_then}
 use Rattle.tac_program.specs.Programs.{Program}
-use Rattle.flow_views.specs.code.ViewProgram.{known_of}
-use Rattle.flow_views.specs.Dots.{node}
 use Rattle.text_pieces.specs.Strings.{quoted}
 use Rattle.flow_views.specs.Views.{points_in}
 use Rattle.dot_texts.proofs.dots.write_cluster.Goals as goal
@@ -12,7 +10,7 @@ returns g c =
     let program : Program = c.args.shown.now.found.graph.now in
     let first : List ℕ = codes "  subgraph \"cluster_" ++ decimal c.args.procedure ++ codes "\" {\n"
     ++ codes "    id=\"procedure" ++ decimal c.args.procedure ++ codes "\";\n    class=\"procedure\";\n" ++ codes "    label=" in
-    let nodes : List ℕ = flat_map (node program (known_of c.args.shown.now) c.args.shown.now.view) (points_in program c.args.procedure) in
+    let nodes : List ℕ = flat_map (g.F.PointForm.text c.args.form.now c.args.shown.now) (points_in program c.args.procedure) in
     takes_as _ _ _ _
     (takes_then _ _ _ _ _ (takes_then _ _ _ _ _ (takes_then _ _ _ _ _ (takes_then _ _ _ _ _ (takes_then _ _ _ _ _
     (takes_then _ _ _ _ _ (takes_then _ _ _ _ _ (takes_then _ _ _ _ _ (takes_then _ _ _ _ _ (takes_then _ _ _ _ _ c.write.ensures

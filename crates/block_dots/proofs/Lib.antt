@@ -1,0 +1,4 @@
+mod points
+mod sets
+mod texts
+mod control

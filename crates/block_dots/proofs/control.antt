@@ -1,0 +1,4 @@
+pub mod Leaders
+pub mod Equations
+pub mod Chains
+pub mod Partition

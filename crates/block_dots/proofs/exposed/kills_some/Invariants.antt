@@ -1,0 +1,9 @@
+use Rattle.std.proofs.Common.{◌≡◌, ◌-◌}
+use Rattle.std.specs.List.{range_with_len}
+use Rattle.block_dots.specs.BlockSets.{kills_some}
+use Rattle.block_dots.proofs.exposed.kills_some.Given as goal
+
+abbrev pub invariant-loop-point : goal.invariant-loop-point
+invariant-loop-point l =
+    kills_some l.graph l.analysis (range_with_len l.first (l.end - l.first)) l.bit
+    ≡ kills_some l.graph l.analysis (range_with_len l.point (l.end - l.point)) l.bit

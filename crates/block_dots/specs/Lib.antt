@@ -1,0 +1,5 @@
+pub mod Blocks
+pub mod BlockSets
+pub mod BlockDots
+pub mod Laws
+pub mod code

@@ -1,0 +1,2 @@
+pub mod BlockBits
+pub mod Blocks
