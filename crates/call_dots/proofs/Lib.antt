@@ -1,0 +1,2 @@
+pub mod drawn
+pub mod named

@@ -1,0 +1,3 @@
+pub mod CallDots
+pub mod Calls
+pub mod code
