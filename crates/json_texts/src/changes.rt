@@ -214,8 +214,10 @@ fn write_names_field<K: Sink>(shown: &ViewProgram<'_>, out: &mut Pieces<'_, K>, 
     out.write(b"]");
 }
 
-// Writes the line of the program, with what its bits are called, and what definitions and expressions are made of.
-fn write_named_program<K: Sink>(shown: &ViewProgram<'_>, out: &mut Pieces<'_, K>)
+/// Writes the line of the program, with what its bits are called, and what definitions and expressions are made of.
+///
+/// The conditions: it is one program that is shown, and the names of its bits are quoted.
+pub fn write_named_program<K: Sink>(shown: &ViewProgram<'_>, out: &mut Pieces<'_, K>)
     requires ready { CanWrite K.Sink out.old }
     requires shown { AreShown shown.now }
     requires form { shown.now.names.form ≡ Quoted }

@@ -1,0 +1,3 @@
+-- How the code stands for an iteration.
+pub mod Frames
+pub mod Orders

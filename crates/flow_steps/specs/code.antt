@@ -1,0 +1,2 @@
+-- What is told, by the columns of the code.
+pub mod Told
