@@ -1,5 +1,7 @@
 -- What is shown of a program.
 use Rattle.std.specs.Prelude.{◌≡◌, ℕ, true, false, List, [], Option, None, Some, slice_get}
+use Rattle.block_dots.specs.BlockDots.{IsBlockDot}
+use Rattle.call_dots.specs.CallDots.{IsCallDot}
 use Rattle.json_parts.specs.JsonParts.{IsJsonPart}
 use Rattle.json_texts.specs.Changes.{IsJsonChanges}
 use Rattle.tac_program.specs.Programs.{Program}
@@ -79,6 +81,8 @@ request_of options = record {
 -- The text of each format. A report is of the whole program whatever the view, and so is a part.
 abbrev pub IsText : Format → Request → (digest : List ℕ) → Program → View → List ℕ → Type 0
 IsText format.Dot request digest program view out = IsPicture request.because program view out
+IsText format.Calls request digest program view out = IsCallDot program request.look.legend out
+IsText format.Blocks request digest program view out = IsBlockDot program view out
 IsText format.Json request digest program view out = IsJsonOrPart request.share digest program view out
 IsText format.JsonPaths request digest program view out = IsJsonWithPaths false program view out
 IsText format.JsonChanges request digest program view out = IsJsonChanges program view out

@@ -1,5 +1,5 @@
 //! What `tacview` does with its options and its streams: a program's flow graph with what holds at its points, for Graphviz or as
-//! lines of JSON, or a page around these, or the report on it, whole or in parts; and the report that its parts make.
+//! lines of JSON, its call graph, or a page around these, or the report on it, whole or in parts; and the report that its parts make.
 #![tactic(auto)]
 
 mod counted;
@@ -13,4 +13,4 @@ pub use counted::Counted;
 pub use lines::line_of;
 pub use merges::{file_line, files_to_merge, merge_files};
 pub use runs::run;
-pub use sizes::{SLOW_PAGE, is_large, large_page_line, size_words};
+pub use sizes::{SLOW_PAGE, calls_words, is_large, large_page_line, size_words};

@@ -53,7 +53,16 @@ pub fn size_words(alloc: Global, points: u32) -> Result<Vec<u8>, OutOfMemory>
     Ok(text.into_bytes())
 }
 
-/// Whether so many points are too many for a picture: more than 400.
+/// What is told of a call graph with so many procedures, in one line. Fails only where memory runs out.
+pub fn calls_words(alloc: Global, procedures: u32) -> Result<Vec<u8>, OutOfMemory>
+    ensures { IfOk result (λ text. text.items ≡ codes "tacview: " ++ (decimal procedures
+        ++ codes " procedures are many for a picture\n")) }
+{
+    let text = format!(in alloc; "tacview: {procedures} procedures are many for a picture\n")?;
+    Ok(text.into_bytes())
+}
+
+/// Whether so many points, or procedures, are too many for a picture: more than 400.
 pub fn is_large(points: u32) -> bool
     ensures { result ≡ nat_lt 400 points }
 {

@@ -2,6 +2,8 @@
 
 ghost use Rattle.std.specs.Prelude.{◌≡◌, ◌+◌, ◌-◌, ◌^◌, ◌<◌, Some, IfOk, IfErr, IfSome, OnOk, MatchOption, false, length, option_map, true};
 ghost use Rattle.std.specs.Thread.{IsSync};
+ghost use Rattle.block_dots.specs.BlockDots.{IsBlockDot};
+ghost use Rattle.call_dots.specs.CallDots.{IsCallDot};
 ghost use Rattle.flow_graph.specs.Limits.{HasFewBits, HasFewPoints};
 ghost use Rattle.flow_paths.specs.Paths.{IsJsonWithPaths};
 ghost use Rattle.flow_paths.specs.Pictures.{IsDotWithPath, LacksUse};
@@ -19,7 +21,9 @@ ghost use Rattle.view_commands.specs.Views.{HasProcedure, IsJsonOrPart, IsPage, 
 ghost use Rattle.view_commands.specs.Views.{LacksRemark, ShowsProcedure, digest_for, request_of, view_for};
 ghost use Rattle.view_words.specs.Commands.{because_queried, name_queried, share_queried, title_queried};
 
-use crate::sizes::{is_large, size_words};
+use crate::sizes::{calls_words, is_large, size_words};
+use block_dots::BlockDotText;
+use call_dots::CallDotText;
 use dot_texts::DotText;
 use flow_graph::Graph;
 use flow_parts::{PartText, digest, part_bits};
@@ -176,6 +180,60 @@ fn push_picture<R: Threads + Sync, K: Sink>(
         Some(place) => push_path_dot(team, alloc, graph, view, place.as_bytes(), sink),
         None => push_dot(team, alloc, graph, view, sink),
     }
+}
+
+// Writes the graph of blocks for Graphviz.
+fn push_blocks<R: Threads + Sync, K: Sink>(
+    team: &Team<'_, R, Progress>,
+    alloc: Global,
+    graph: &Graph<'_>,
+    view: View,
+    sink: &mut K,
+) -> Result<(), Fault>
+    requires threads { IsSync R.row }
+    requires below { K.faults sink.old < 2 ^ 32 - 1 }
+    requires there { IfSome view.procedure (λ number. number < length graph.now.procedure_names) }
+    ensures delivers { Delivers (λ out. IsBlockDot graph.now view out) (K.contents sink.old) (K.contents sink.new) result }
+    ensures flushed { OnOk result (K.flushed sink.new ≡ true) }
+    ensures fault { IfErr result (OfProgram (λ _. ⊥) ⊥ ⊥) }
+    ensures faults { K.faults sink.new ≡ K.faults sink.old + write_faults_in result }
+{
+    tell_size(alloc, team.gate, graph, view);
+    let (tables, answers) = tables_and_answers(team, alloc, graph, view)?;
+    let text = BlockDotText::of(alloc, graph, &tables, &answers, view)?;
+    push_text(alloc, &text, sink)
+}
+
+// Tells how many procedures a call graph has.
+fn tell_calls(alloc: Global, gate: &Progress, graph: &Graph<'_>) {
+    let count = graph.program().procs().len() as u32;
+    if !is_large(count) {
+        return;
+    }
+    if let Ok(line) = calls_words(alloc, count) {
+        gate.tell(&line);
+    }
+}
+
+// Writes the call graph for Graphviz, with a legend or without.
+fn push_calls<R: Threads + Sync, K: Sink>(
+    team: &Team<'_, R, Progress>,
+    alloc: Global,
+    graph: &Graph<'_>,
+    legend: bool,
+    sink: &mut K,
+) -> Result<(), Fault>
+    requires threads { IsSync R.row }
+    requires below { K.faults sink.old < 2 ^ 32 - 1 }
+    ensures delivers { Delivers (λ out. IsCallDot graph.now legend out) (K.contents sink.old) (K.contents sink.new) result }
+    ensures flushed { OnOk result (K.flushed sink.new ≡ true) }
+    ensures fault { IfErr result (OfProgram (λ _. ⊥) ⊥ ⊥) }
+    ensures faults { K.faults sink.new ≡ K.faults sink.old + write_faults_in result }
+{
+    tell_calls(alloc, team.gate, graph);
+    let answers = ReportAnswers::of(team, alloc, graph)?;
+    let text = CallDotText::of(alloc, graph, &answers, legend)?;
+    push_text(alloc, &text, sink)
 }
 
 // Writes the lines of JSON.
@@ -431,6 +489,8 @@ fn view_of_graph<R: Threads + Sync, K: Sink>(
     let view = shown.view;
     match options.format {
         Format::Dot => push_picture(team, alloc, graph, view, options, sink),
+        Format::Calls => push_calls(team, alloc, graph, options.asked.look.legend, sink),
+        Format::Blocks => push_blocks(team, alloc, graph, view, sink),
         Format::Json => push_json_or_part(team, alloc, graph, shown, options, sink),
         Format::JsonPaths => push_json_paths(team, alloc, graph, view, sink),
         Format::JsonChanges => push_json_changes(team, alloc, graph, view, sink),

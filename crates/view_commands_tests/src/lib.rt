@@ -3,6 +3,8 @@
 #![tactic(auto)]
 
 #[cfg(test)]
+mod call_tests;
+#[cfg(test)]
 mod change_tests;
 #[cfg(test)]
 mod limit_tests;

@@ -3,7 +3,7 @@
 use run_progress::{Count, progress_words};
 use std::alloc::Global;
 use std::test::Fail;
-use view_commands::{is_large, size_words};
+use view_commands::{calls_words, is_large, size_words};
 
 // What is told of three slices, which begin and are finished at these times, and when the work ends.
 fn lines_at(alloc: Global, count: &Count, times: &[u64]) -> Result<String, Fail> {
@@ -85,6 +85,9 @@ fn large_pictures_in_words(rt: HostRuntime) -> Result<(), Fail> {
     let words = size_words(rt.alloc(), 401)?;
     let want: &[u8] =
         b"tacview: 401 points are many for a picture: --procedure NAME draws one procedure, --format html makes a page\n";
+    assert_eq!(rt; words.as_slice(), want);
+    let words = calls_words(rt.alloc(), 401)?;
+    let want: &[u8] = b"tacview: 401 procedures are many for a picture\n";
     assert_eq!(rt; words.as_slice(), want);
     Ok(())
 }

@@ -134,6 +134,44 @@ const LOOKS: &[(&[&str], Look)] = &[
     ),
 ];
 
+// Words for the call graph.
+const CALLS: &[&[&str]] = &[
+    &["tacview", "--calls"],
+    &["tacview", "--legend", "--calls", "--facts=none"],
+];
+
+// It has no facts, no looks of them, and is of all procedures.
+const NO_CALLS: &[&[&str]] = &[
+    &["tacview", "--calls", "--format=json"],
+    &["tacview", "--calls", "--format=html"],
+    &["tacview", "--calls", "--format=report"],
+    &["tacview", "--calls", "--procedure=main"],
+    &["tacview", "--calls", "--facts=reach"],
+    &["tacview", "--calls", "--because=3"],
+    &["tacview", "--calls", "--changes"],
+    &["tacview", "--calls", "--paths"],
+    &["tacview", "--calls", "--hide-entry"],
+    &["tacview", "--calls", "--facts-behind"],
+    &["tacview", "--calls", "--facts-on-hover"],
+    &["tacview", "--calls", "--part=1/2"],
+    &["tacview", "--calls", "--title=t"],
+];
+
+#[test]
+fn calls_that_are_named(rt: HostRuntime) -> Result<(), Fail> {
+    for words in CALLS {
+        let (_, _, format, facts) = named_by(rt.alloc(), words)?;
+        assert!(rt; format == Format::Calls && facts == NONE);
+    }
+    for words in NO_CALLS {
+        match named_by(rt.alloc(), words) {
+            Ok(_) => assert!(rt; false),
+            Err(kind) => assert!(rt; kind == error::ErrorKind::ArgumentConflict),
+        }
+    }
+    Ok(())
+}
+
 // Looks go with pictures alone, and differences neither with paths nor in reports.
 const NO_LOOKS: &[&[&str]] = &[
     &["tacview", "--format=json", "--hide-entry"],

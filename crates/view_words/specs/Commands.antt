@@ -12,13 +12,13 @@ use Rattle.clap.specs.declared.error.kind.ErrorKind.TheVariants.{ArgumentConflic
 use Rattle.flow_runs.specs.Words.{AreKindsOf, NamesNumber, flag_rule, has_flag, kind_rule, limits_named, number_rule, sizes, text_rule}
 use Rattle.flow_views.specs.declared.view.Look.{Look}
 use Rattle.part_texts.specs.Shares.{read_share, some_share}
-use Rattle.view_words.specs.Kinds.{facts_queried, facts_named, format_named, formats, with_changes, with_part, with_paths, with_picture, with_title}
+use Rattle.view_words.specs.Kinds.{facts_queried, facts_named, format_named, formats, with_blocks, with_calls, with_changes, with_part, with_paths, with_picture, with_title}
 use Rattle.view_words.specs.declared.options.Format.{Format}
 use Rattle.view_words.specs.declared.options.Options.{Options}
 
--- `tacview [--format KIND] [--facts LIST] [--hide-entry] [--facts-behind] [--facts-on-hover] [--legend] [--procedure NAME] [--paths] [--changes]`,
+-- `tacview [--format KIND] [--facts LIST] [--hide-entry] [--facts-behind] [--facts-on-hover] [--legend] [--calls] [--blocks] [--procedure NAME] [--paths]`,
 -- and behind them
--- `[--because PLACE] [--part K/N] [--title TEXT] [--limits SIZE] [--workers N] [--cut N]`
+-- `[--changes] [--because PLACE] [--part K/N] [--title TEXT] [--limits SIZE] [--workers N] [--cut N]`
 abbrev pub form_command : Bor (List PossibleValue) → App
 form_command values =
     with_rule (with_rule (new_app (codes "tacview")) (kind_rule (codes "format") (codes "dot") values)) (text_rule (codes "facts"))
@@ -29,9 +29,12 @@ look_command values = with_rule (with_rule (form_command values) (flag_rule (cod
 abbrev pub picture_command : Bor (List PossibleValue) → App
 picture_command values = with_rule (with_rule (look_command values) (flag_rule (codes "facts-on-hover"))) (flag_rule (codes "legend"))
 
+abbrev pub shape_command : Bor (List PossibleValue) → App
+shape_command values = with_rule (with_rule (picture_command values) (flag_rule (codes "calls"))) (flag_rule (codes "blocks"))
+
 abbrev pub view_command : Bor (List PossibleValue) → App
 view_command values =
-    with_rule (with_rule (with_rule (picture_command values) (text_rule (codes "procedure"))) (flag_rule (codes "paths"))) (flag_rule (codes "changes"))
+    with_rule (with_rule (with_rule (shape_command values) (text_rule (codes "procedure"))) (flag_rule (codes "paths"))) (flag_rule (codes "changes"))
 
 abbrev pub part_command : Bor (List PossibleValue) → App
 part_command values =
@@ -68,6 +71,38 @@ has_look look = look.hides_entry || look.behind || look.hovers || look.legend
 abbrev pub has_picture : List Row → Bool
 has_picture rows = is_some (first_of (codes "because") rows) || has_look (look_queried rows)
 
+-- Whether the call graph is asked for.
+abbrev pub has_calls : List Row → Bool
+has_calls rows = has_flag (codes "calls") rows
+
+-- Whether a word is given for an option.
+abbrev pub is_given : List ℕ → List Row → Bool
+is_given name rows = is_some (first_of name rows)
+
+-- Whether no facts are asked for: by that word, or by no list.
+abbrev pub shows_no_facts : List Row → Bool
+shows_no_facts rows = option_map_or (λ list. bytes_eq list (codes "none")) (first_of (codes "facts") rows) true
+
+-- Whether a look is asked for that is one of facts.
+abbrev pub looks_at_facts : Look → Bool
+looks_at_facts look = look.hides_entry || look.behind || look.hovers || look.changes
+
+-- Whether nothing is asked for that a call graph has not: facts, a look of them, one procedure, or a path that is marked.
+abbrev pub is_plain : List Row → Bool
+is_plain rows =
+    shows_no_facts rows && not (looks_at_facts (look_queried rows)) && not (is_given (codes "procedure") rows) && not (is_given (codes "because") rows)
+
+-- Whether blocks are asked for.
+abbrev pub has_blocks : List Row → Bool
+has_blocks rows = has_flag (codes "blocks") rows
+
+-- Whether nothing is asked for that blocks have not: differences, sets behind statements, or a path that is marked.
+abbrev pub looks_at_points : Look → Bool
+looks_at_points look = look.behind || look.changes
+
+abbrev pub fits_blocks : List Row → Bool
+fits_blocks rows = not (looks_at_points (look_queried rows)) && not (is_given (codes "because") rows)
+
 -- Whether a part is asked for.
 abbrev pub has_part : List Row → Bool
 has_part rows = is_some (first_of (codes "part") rows)
@@ -91,9 +126,17 @@ lines_format rows =
 abbrev pub shown_format : List Row → Option Format
 shown_format rows = option_and_then (with_picture (has_picture rows)) (lines_format rows)
 
+-- The same of points or of calls; None where it has none.
+abbrev pub call_format : List Row → Option Format
+call_format rows = option_and_then (with_calls (has_calls rows) (is_plain rows)) (shown_format rows)
+
+-- The same of points, calls or blocks; None where it has none.
+abbrev pub block_format : List Row → Option Format
+block_format rows = option_and_then (with_blocks (has_blocks rows) (fits_blocks rows)) (call_format rows)
+
 -- The same, whole or a part of it; None where it has none.
 abbrev pub part_format : List Row → Option Format
-part_format rows = option_and_then (with_part (has_part rows) (is_bare rows)) (shown_format rows)
+part_format rows = option_and_then (with_part (has_part rows) (is_bare rows)) (block_format rows)
 
 -- The format that is asked for, with a title or without; None where it has none.
 abbrev pub format_queried : List Row → Option Format
@@ -145,8 +188,8 @@ knows_facts rows = option_map_or (λ list. is_some (facts_named list)) (first_of
 abbrev pub knows_share : List Row → Bool
 knows_share rows = is_some (known_share (first_of (codes "part") rows))
 
--- The kinds of errors for options that `clap` takes: paths or differences with a format that has none, or what pictures alone have, or a part, or a
--- title, and a list that names no facts, or words that name no part.
+-- The kinds of errors for options that `clap` takes: paths or differences with a format that has none, or what pictures alone have, or a call graph
+-- with what it has not, or a part, or a title, and a list that names no facts, or words that name no part.
 abbrev pub kinds_of : Bool → Bool → Kinds
 kinds_of false known = ArgumentConflict ∷ []
 kinds_of true false = InvalidValue ∷ []

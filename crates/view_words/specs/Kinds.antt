@@ -20,6 +20,8 @@ format_named = kind_named formats
 abbrev pub with_paths : Bool → Format → Option Format
 with_paths false format = Some format
 with_paths true format.Dot = None
+with_paths true format.Calls = None
+with_paths true format.Blocks = None
 with_paths true format.Json = Some format.JsonPaths
 with_paths true format.JsonPaths = Some format.JsonPaths
 with_paths true format.JsonChanges = None
@@ -32,6 +34,8 @@ with_paths true format.HtmlPaths = Some format.HtmlPaths
 abbrev pub with_changes : Bool → Format → Option Format
 with_changes false format = Some format
 with_changes true format.Dot = Some format.Dot
+with_changes true format.Calls = None
+with_changes true format.Blocks = None
 with_changes true format.Json = Some format.JsonChanges
 with_changes true format.JsonPaths = None
 with_changes true format.JsonChanges = Some format.JsonChanges
@@ -43,6 +47,8 @@ with_changes true format.HtmlPaths = None
 abbrev pub with_picture : Bool → Format → Option Format
 with_picture false format = Some format
 with_picture true format.Dot = Some format.Dot
+with_picture true format.Calls = Some format.Calls
+with_picture true format.Blocks = Some format.Blocks
 with_picture true format.Json = None
 with_picture true format.JsonPaths = None
 with_picture true format.JsonChanges = None
@@ -50,10 +56,39 @@ with_picture true format.Report = None
 with_picture true format.Html = None
 with_picture true format.HtmlPaths = None
 
+-- The format with the call graph in place of points, where it is asked for: only pictures have it, of all procedures and without facts.
+abbrev pub with_calls : (is plain : Bool) → Format → Option Format
+with_calls false plain format = Some format
+with_calls true plain format.Dot = if plain then Some format.Calls else None
+with_calls true plain format.Calls = if plain then Some format.Calls else None
+with_calls true plain format.Blocks = None
+with_calls true plain format.Json = None
+with_calls true plain format.JsonPaths = None
+with_calls true plain format.JsonChanges = None
+with_calls true plain format.Report = None
+with_calls true plain format.Html = None
+with_calls true plain format.HtmlPaths = None
+
+-- The format with blocks in place of points, where they are asked for: only pictures have them, without differences, sets behind statements and a
+-- path that is marked.
+abbrev pub with_blocks : (is fits : Bool) → Format → Option Format
+with_blocks false fits format = Some format
+with_blocks true fits format.Dot = if fits then Some format.Blocks else None
+with_blocks true fits format.Calls = None
+with_blocks true fits format.Blocks = if fits then Some format.Blocks else None
+with_blocks true fits format.Json = None
+with_blocks true fits format.JsonPaths = None
+with_blocks true fits format.JsonChanges = None
+with_blocks true fits format.Report = None
+with_blocks true fits format.Html = None
+with_blocks true fits format.HtmlPaths = None
+
 -- The format, where it fits to what is asked for: a report has parts, and so have lines of JSON of all procedures without facts.
 abbrev pub with_part : (is bare : Bool) → Format → Option Format
 with_part false bare format = Some format
 with_part true bare format.Dot = None
+with_part true bare format.Calls = None
+with_part true bare format.Blocks = None
 with_part true bare format.Json = if bare then Some format.Json else None
 with_part true bare format.JsonPaths = None
 with_part true bare format.JsonChanges = None
@@ -65,6 +100,8 @@ with_part true bare format.HtmlPaths = None
 abbrev pub with_title : Bool → Format → Option Format
 with_title false format = Some format
 with_title true format.Dot = None
+with_title true format.Calls = None
+with_title true format.Blocks = None
 with_title true format.Json = None
 with_title true format.JsonPaths = None
 with_title true format.JsonChanges = None
@@ -101,6 +138,8 @@ facts_named list =
 -- The facts that are shown where no list says which. A report shows none.
 abbrev pub facts_by_format : Format → Chosen
 facts_by_format format.Dot = no_facts
+facts_by_format format.Calls = no_facts
+facts_by_format format.Blocks = no_facts
 facts_by_format format.Json = all_facts
 facts_by_format format.JsonPaths = all_facts
 facts_by_format format.JsonChanges = all_facts

@@ -70,7 +70,7 @@ pub(crate) fn facts_by(format: Format) -> Chosen
     ensures { result ≡ facts_by_format format }
 {
     match format {
-        Format::Dot | Format::Report => NONE,
+        Format::Dot | Format::Calls | Format::Blocks | Format::Report => NONE,
         Format::Json | Format::JsonPaths | Format::JsonChanges | Format::Html | Format::HtmlPaths =>
             ALL,
     }

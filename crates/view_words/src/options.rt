@@ -13,6 +13,10 @@ use tac_program::Limits;
 pub enum Format {
     /// A graph for Graphviz.
     Dot,
+    /// The call graph, for Graphviz.
+    Calls,
+    /// The graph of blocks, for Graphviz.
+    Blocks,
     /// Lines of JSON, or a part of those without facts.
     Json,
     /// Lines of JSON, with a path for each variable that may be used before it is set.

@@ -1,6 +1,6 @@
 // The program's words, read by `clap`.
 
-ghost use Rattle.std.specs.Prelude.{◌≡◌, ◌&&◌, Some, bytes_eq, false, map, codes, is_some, IfOk, IfSome, option_and_then, option_map};
+ghost use Rattle.std.specs.Prelude.{◌≡◌, ◌&&◌, Some, bytes_eq, false, map, not, codes, is_some, IfOk, IfSome, option_and_then, option_map};
 ghost use Rattle.std.specs.Option.{option_map_or};
 ghost use Rattle.std.specs.String.{string_bytes};
 ghost use Rattle.clap.specs.Words.{FailsBy, app_of, first_of, found_of, rows_of, rule_of};
@@ -8,11 +8,12 @@ ghost use Rattle.flow_runs.specs.Words.{AreKindsOf, flag_rule, has_flag, kind_ru
 ghost use Rattle.flow_runs.specs.code.Matches.{HoldsKind};
 ghost use Rattle.part_texts.specs.Shares.{some_share};
 ghost use Rattle.view_words.specs.Commands.{AnswersWords, NamesOptions, format_queried, has_look, has_part, is_bare};
-ghost use Rattle.view_words.specs.Commands.{has_paths, has_picture, has_title, lines_format};
+ghost use Rattle.view_words.specs.Commands.{block_format, call_format, fits_blocks, has_paths, has_picture, has_title, is_given, is_plain, lines_format, looks_at_facts};
+ghost use Rattle.view_words.specs.Commands.{looks_at_points, shape_command, shows_no_facts};
 ghost use Rattle.view_words.specs.Commands.{knows_facts, look_command, look_queried};
 ghost use Rattle.view_words.specs.Commands.{form_command, known_share, knows_share, option_kinds, part_command, picture_command, part_format, shown_format};
 ghost use Rattle.view_words.specs.Commands.{tacview_command, view_command};
-ghost use Rattle.view_words.specs.Kinds.{facts_queried, format_named, formats as known_formats, with_changes, with_part, with_paths, with_picture, with_title};
+ghost use Rattle.view_words.specs.Kinds.{facts_queried, format_named, formats as known_formats, with_blocks, with_calls, with_changes, with_part, with_paths, with_picture, with_title};
 ghost use Rattle.view_words.specs.code.Matches.{HoldsOptions};
 
 use crate::facts::{facts_by, facts_of};
@@ -43,6 +44,8 @@ const AFTER_HELP: &str =
     dashed arrow  a call or a return, with the line of the call\n\nExamples:\n  tacview < program.tac | dot -Tsvg > program.svg\n  \
     tacview --format json --facts reach,live --procedure main < program.tac\n  \
     tacview --facts reach --hide-entry --facts-behind < program.tac | dot -Tsvg > sets.svg\n  \
+    tacview --calls < program.tac | dot -Tsvg > calls.svg\n  \
+    tacview --blocks --facts reach < program.tac | dot -Tsvg > blocks.svg\n  \
     tacview --because 12:x < program.tac | dot -Tsvg > path.svg\n  \
     tacview --format json --facts none --paths < program.tac\n  \
     tacview --facts reach --changes < program.tac | dot -Tsvg > changes.svg\n  \
@@ -61,7 +64,9 @@ const NO_VALUE: &str =
 
 const NO_FORMAT: &str =
     "'--paths' goes with '--format json' or 'html', '--changes' with '--format dot', or 'json' without '--paths', '--because', '--hide-entry', \
-    '--facts-behind', '--facts-on-hover' and '--legend' with '--format dot', '--part' with '--format report', or with '--format json', \
+    '--facts-behind', '--facts-on-hover' and '--legend' with '--format dot', '--calls' with '--format dot' and, of all these, '--legend' alone, \
+    without '--procedure' and '--facts' other than none, '--blocks' with '--format dot' without '--calls', '--because', '--changes' and \
+    '--facts-behind', '--part' with '--format report', or with '--format json', \
     '--facts none' and no '--procedure', and '--title' with '--format html'";
 
 fn format_of(word: &str) -> Option<Format>
@@ -154,6 +159,26 @@ fn legend_option<'a>(alloc: Global) -> Arg<'a>
         .long("legend")
         .action(ArgAction::SetTrue)
         .help("With --format dot: a box that tells what the marks mean")
+}
+
+fn calls_option<'a>(alloc: Global) -> Arg<'a>
+    ensures rule { rule_of result ≡ flag_rule (codes "calls") }
+    ensures own { result.global ≡ false }
+{
+    Arg::new(alloc, "calls")
+        .long("calls")
+        .action(ArgAction::SetTrue)
+        .help("With --format dot: the call graph, a node a procedure")
+}
+
+fn blocks_option<'a>(alloc: Global) -> Arg<'a>
+    ensures rule { rule_of result ≡ flag_rule (codes "blocks") }
+    ensures own { result.global ≡ false }
+{
+    Arg::new(alloc, "blocks")
+        .long("blocks")
+        .action(ArgAction::SetTrue)
+        .help("With --format dot: basic blocks, and their facts as IN, OUT, gen and kill")
 }
 
 fn procedure_option<'a>(alloc: Global) -> Arg<'a>
@@ -265,6 +290,18 @@ fn picture_command<'a>(
         .arg(legend_option(alloc))
 }
 
+// The command with the options that say that calls or blocks are shown.
+fn shape_command<'a>(
+    alloc: Global,
+    formats: &'a [PossibleValue<'a>],
+) -> Result<Command<'a>, OutOfMemory>
+    ensures { IfOk result (λ c. app_of c ≡ shape_command formats.entry) }
+{
+    picture_command(alloc, formats)?
+        .arg(calls_option(alloc))?
+        .arg(blocks_option(alloc))
+}
+
 // The command with the options that say what is shown.
 fn view_command<'a>(
     alloc: Global,
@@ -272,7 +309,7 @@ fn view_command<'a>(
 ) -> Result<Command<'a>, OutOfMemory>
     ensures { IfOk result (λ c. app_of c ≡ view_command formats.entry) }
 {
-    picture_command(alloc, formats)?
+    shape_command(alloc, formats)?
         .arg(procedure_option(alloc))?
         .arg(paths_option(alloc))?
         .arg(changes_option(alloc))
@@ -321,6 +358,8 @@ fn with_paths(is: bool, format: Format) -> Option<Format>
     }
     match format {
         Format::Dot => None,
+        Format::Calls => None,
+        Format::Blocks => None,
         Format::Json => Some(Format::JsonPaths),
         Format::JsonPaths => Some(Format::JsonPaths),
         Format::JsonChanges => None,
@@ -339,6 +378,8 @@ fn with_changes(is: bool, format: Format) -> Option<Format>
     }
     match format {
         Format::Dot => Some(Format::Dot),
+        Format::Calls => None,
+        Format::Blocks => None,
         Format::Json => Some(Format::JsonChanges),
         Format::JsonPaths => None,
         Format::JsonChanges => Some(Format::JsonChanges),
@@ -387,6 +428,8 @@ fn with_picture(is: bool, format: Format) -> Option<Format>
     }
     match format {
         Format::Dot => Some(Format::Dot),
+        Format::Calls => Some(Format::Calls),
+        Format::Blocks => Some(Format::Blocks),
         Format::Json => None,
         Format::JsonPaths => None,
         Format::JsonChanges => None,
@@ -403,6 +446,116 @@ fn format_with_paths(matches: &ArgMatches<'_>) -> Option<Format>
         (option_and_then format_named (first_of (codes "format") (rows_of (found_of matches.now)))) }
 {
     with_paths(has_flag(matches, "paths"), format_by(matches))
+}
+
+// Whether a word was given for an option.
+fn is_given(matches: &ArgMatches<'_>, name: &str) -> bool
+    ensures { result ≡ is_given name.now (rows_of (found_of matches.now)) }
+{
+    match matches.get_str(name) {
+        Some(_) => true,
+        None => false,
+    }
+}
+
+// Whether no facts were asked for, by that word or by no list.
+fn shows_no_facts(matches: &ArgMatches<'_>) -> bool
+    ensures { result ≡ shows_no_facts (rows_of (found_of matches.now)) }
+{
+    match matches.get_str("facts") {
+        Some(list) => list == "none",
+        None => true,
+    }
+}
+
+// Whether it is a look of facts.
+fn looks_at_facts(look: Look) -> bool
+    ensures { result ≡ looks_at_facts look }
+{
+    look.hides_entry || look.behind || look.hovers || look.changes
+}
+
+// The first, and none of the others.
+fn only_first(first: bool, second: bool, third: bool, fourth: bool) -> bool
+    ensures { result ≡ (first && not second && not third && not fourth) }
+{
+    first && !second && !third && !fourth
+}
+
+// Whether nothing was asked for that a call graph has not.
+fn is_plain(matches: &ArgMatches<'_>) -> bool
+    ensures { result ≡ is_plain (rows_of (found_of matches.now)) }
+{
+    only_first(
+        shows_no_facts(matches),
+        looks_at_facts(look_found(matches)),
+        is_given(matches, "procedure"),
+        is_given(matches, "because"),
+    )
+}
+
+// The format with the call graph, where it is asked for. None where it has none.
+fn with_calls(is: bool, plain: bool, format: Format) -> Option<Format>
+    ensures { result ≡ with_calls is plain format }
+{
+    if !is {
+        return Some(format);
+    }
+    match format {
+        Format::Dot => { if plain { Some(Format::Calls) } else { None } },
+        Format::Calls => { if plain { Some(Format::Calls) } else { None } },
+        Format::Blocks => None,
+        Format::Json => None,
+        Format::JsonPaths => None,
+        Format::JsonChanges => None,
+        Format::Report => None,
+        Format::Html => None,
+        Format::HtmlPaths => None,
+    }
+}
+
+// Whether it is a look that blocks have not.
+fn looks_at_points(look: Look) -> bool
+    ensures { result ≡ looks_at_points look }
+{
+    look.behind || look.changes
+}
+
+// None of both.
+fn is_neither(first: bool, second: bool) -> bool
+    ensures { result ≡ (not first && not second) }
+{
+    !first && !second
+}
+
+// Whether nothing was asked for that blocks have not.
+fn fits_blocks(matches: &ArgMatches<'_>) -> bool
+    ensures { result ≡ fits_blocks (rows_of (found_of matches.now)) }
+{
+    is_neither(
+        looks_at_points(look_found(matches)),
+        is_given(matches, "because"),
+    )
+}
+
+// The format with blocks, where they are asked for. None where it has none.
+fn with_blocks(is: bool, fits: bool, format: Format) -> Option<Format>
+    ensures { result ≡ with_blocks is fits format }
+{
+    if !is {
+        return Some(format);
+    }
+    match format {
+        Format::Dot => { if fits { Some(Format::Blocks) } else { None } },
+        Format::Calls => None,
+        Format::Blocks => { if fits { Some(Format::Blocks) } else { None } },
+        Format::Json => None,
+        Format::JsonPaths => None,
+        Format::JsonChanges => None,
+        Format::Report => None,
+        Format::Html => None,
+        Format::HtmlPaths => None,
+    }
 }
 
 // Whether a part was asked for.
@@ -444,6 +597,8 @@ fn with_part(is: bool, bare: bool, format: Format) -> Option<Format>
     }
     match format {
         Format::Dot => None,
+        Format::Calls => None,
+        Format::Blocks => None,
         Format::Json => { if bare { Some(Format::Json) } else { None } },
         Format::JsonPaths => None,
         Format::JsonChanges => None,
@@ -475,12 +630,34 @@ fn shown_format(matches: &ArgMatches<'_>) -> Option<Format>
     }
 }
 
+// The same of points or of calls. None where it has no calls, and they were asked for.
+fn call_format(matches: &ArgMatches<'_>) -> Option<Format>
+    requires { HoldsKind known_formats (rows_of (found_of matches.now)) (codes "format") }
+    ensures { result ≡ call_format (rows_of (found_of matches.now)) }
+{
+    match shown_format(matches) {
+        Some(format) => with_calls(has_flag(matches, "calls"), is_plain(matches), format),
+        None => None,
+    }
+}
+
+// The same of points, calls or blocks. None where it has no blocks, and they were asked for.
+fn block_format(matches: &ArgMatches<'_>) -> Option<Format>
+    requires { HoldsKind known_formats (rows_of (found_of matches.now)) (codes "format") }
+    ensures { result ≡ block_format (rows_of (found_of matches.now)) }
+{
+    match call_format(matches) {
+        Some(format) => with_blocks(has_flag(matches, "blocks"), fits_blocks(matches), format),
+        None => None,
+    }
+}
+
 // The same, whole or a part of it. None where it has no parts, and one was asked for.
 fn part_format(matches: &ArgMatches<'_>) -> Option<Format>
     requires { HoldsKind known_formats (rows_of (found_of matches.now)) (codes "format") }
     ensures { result ≡ part_format (rows_of (found_of matches.now)) }
 {
-    match shown_format(matches) {
+    match block_format(matches) {
         Some(format) => with_part(has_part(matches), is_bare(matches), format),
         None => None,
     }
@@ -505,6 +682,8 @@ fn with_title(is: bool, format: Format) -> Option<Format>
     }
     match format {
         Format::Dot => None,
+        Format::Calls => None,
+        Format::Blocks => None,
         Format::Json => None,
         Format::JsonPaths => None,
         Format::JsonChanges => None,
@@ -622,14 +801,15 @@ fn named_options(
 
 impl Options {
     /// The options that the program's words name, of which the first is the program's own name:
-    /// `tacview [--format KIND] [--facts LIST] [--hide-entry] [--facts-behind] [--facts-on-hover] [--legend] [--procedure NAME] [--paths] [--changes] [--because PLACE]
-    /// [--part K/N] [--title TEXT] [--limits SIZE] [--workers N] [--cut N]`. Without an option stands its default: `dot`, no facts for it and all
+    /// `tacview [--format KIND] [--facts LIST] [--hide-entry] [--facts-behind] [--facts-on-hover] [--legend] [--calls] [--blocks] [--procedure NAME] [--paths]
+    /// [--changes] [--because PLACE] [--part K/N] [--title TEXT] [--limits SIZE] [--workers N] [--cut N]`. Without an option stands its default: `dot`, no facts for it and all
     /// for `json` and `html`, with entries and none behind, all procedures, no paths, sets and no differences, no path that is marked, the
     /// whole report, no title, `standard`, 1 and 64.
     ///
     /// Refuses words that the command does not take, a number outside its range, a word that is no format or no limits, a list that names
     /// no facts and words that name no part among them, and a call for help; what a format does not have: paths with others than `json` and
-    /// `html`, differences with others than `dot` and `json` or with paths, a path that is marked or a look with another than `dot`, a part
+    /// `html`, differences with others than `dot` and `json` or with paths, a path that is marked or a look with another than `dot`, the call
+    /// graph with another than `dot`, or with facts, a look of them, one procedure, differences or a path that is marked, a part
     /// with another than `report`, but for `json` of all procedures with `--facts none`, a title with another than `html`; or memory was
     /// refused.
     pub fn from_words<'a>(alloc: Global, words: &'a [&'a str]) -> Result<Options, Error>
