@@ -29,7 +29,7 @@ WIDTH = 140
 # How long a document may be; all others below docs/ may have OTHER_SIZE lines.
 SIZES = {
     "docs/ARCHITECTURE.md": 210,
-    "docs/TRUST.md": 220,
+    "docs/TRUST.md": 230,
     "docs/DECISIONS.md": 320,
     "docs/PROVING.md": 395,
     "docs/GLOSSARY.md": 80,

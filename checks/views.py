@@ -1,10 +1,11 @@
 """Tries tacview on each program of examples/. Each line of JSON is parsed, held against
 docs/tacview.schema.json, and compared with what tacflow writes of the same program: tables, report,
-listing and source; differences give the sets of the other form, and parts the lines of the whole. A page
-has these lines. Each picture
-is compared with one that is made of the lines, and goes through Graphviz, where `dot` is there. Then the facts of one procedure of a larger program have to do with
-the memory of its points, and the report of a program with many tests and expressions with that of
-the words that have a bit. TACVIEW=/path/to/program and TACFLOW=/path/to/program take other programs
+listing and source; differences give the sets of the other form, and parts the lines of the whole. A
+page has these lines. Each picture is compared with one that is made of the lines, and goes through
+Graphviz, where `dot` is there; the call graph, as Graphviz reads it, is compared with one that is
+made of the program's text. Then the facts of one procedure of a larger program have to do with the
+memory of its points, and the report of a program with many tests and expressions with that of the
+words that have a bit. TACVIEW=/path/to/program and TACFLOW=/path/to/program take other programs
 than ./tacview and ./tacflow. Prints `N passed, M failed`."""
 
 from __future__ import annotations
@@ -524,6 +525,106 @@ def check_dot(source: bytes) -> None:
         assert done.returncode == 0 and not done.stderr, done.stderr.decode()
 
 
+COUNTED = {
+    "never_reached": "never reached",
+    "unset": "may be used before it is set",
+    "computed": "is already computed",
+    "busy": "is very busy",
+    "dead": "assignment is dead",
+}
+
+
+def read_calls(source: bytes) -> tuple[list[str], dict[str, int], list[tuple[str, str, int]]]:
+    """The procedures of a text in order, the line of each one's first statement, and its calls:
+    caller, callee and line."""
+    names: list[str] = []
+    firsts: dict[str, int] = {}
+    calls = []
+    for number, row in enumerate(source.decode().splitlines(), 1):
+        words = re.sub(r"^(\s*\w+\s*:)+", "", row.split("#")[0]).split()
+        if words[:1] == ["proc"]:
+            names.append(words[1])
+        elif words and words != ["end"]:
+            firsts.setdefault(names[-1], number)
+            if words[0] == "call":
+                callees = "".join(words[1:]).split("|")
+                calls += [(names[-1], callee, number) for callee in callees]
+    return names, firsts, calls
+
+
+def leading(calls: list[tuple[str, str, int]]) -> dict[str, set[str]]:
+    """Where calls lead from each procedure, through one or more."""
+    leads: dict[str, set[str]] = {}
+    for caller, callee, _ in calls:
+        leads.setdefault(caller, set()).add(callee)
+    grown = True
+    while grown:
+        grown = False
+        for reached in leads.values():
+            more = set[str]().union(*(leads.get(name, set()) for name in reached)) - reached
+            reached |= more
+            grown = grown or bool(more)
+    return leads
+
+
+def wanted_nodes(source: bytes) -> dict[str, tuple[str, str]]:
+    """Of each procedure the class and the label that its node has to have."""
+    names, firsts, calls = read_calls(source)
+    _, points, remarks = objects(source)
+    leads = leading(calls)
+    wanted = {}
+    for name in names:
+        own = [point for point in points if point["procedure"] == name]
+        told = [row["kind"] for row in remarks if points[row["point"]]["procedure"] == name]
+        words = ["procedure"] + ["recursive"] * (name in leads.get(name, set()))
+        words += ["unreached"] * (not own[0]["reach"]["path"])
+        first = f"line {firsts[name]}, " if name in firsts else ""
+        rows = [name, f"{first}{len(own)} point{'s' * (len(own) != 1)}"]
+        rows += [f"{COUNTED[kind]}: {told.count(kind)}" for kind in COUNTED if kind in told]
+        wanted[name] = (" ".join(words), "".join(f"{row}\\l" for row in rows))
+    return wanted
+
+
+def wanted_edges(source: bytes) -> dict[tuple[str, str], tuple[str, str]]:
+    """Of each caller and callee the class and the label that their edge has to have."""
+    _, _, calls = read_calls(source)
+    leads = leading(calls)
+    lines: dict[tuple[str, str], list[int]] = {}
+    for caller, callee, line in calls:
+        lines.setdefault((caller, callee), []).append(line)
+    return {
+        (caller, callee): (
+            "call recursive" if caller in leads.get(callee, set()) | {callee} else "call",
+            f"line {rows[0]}" if len(rows) == 1 else f"{len(rows)} calls",
+        )
+        for (caller, callee), rows in lines.items()
+    }
+
+
+def check_calls(source: bytes) -> None:
+    """The call graph, as Graphviz reads it, is that of the text."""
+    if not shutil.which("dot"):
+        return
+    for words in (["--calls"], ["--calls", "--legend"]):
+        written = run(TACVIEW, words, source)
+        done = subprocess.run(["dot", "-Tdot_json"], input=written, capture_output=True)
+        assert done.returncode == 0 and not done.stderr, done.stderr.decode()
+        graph = json.loads(done.stdout)
+        names = objects(source)[0]["procedures"]
+        own = [row for row in graph["objects"] if row.get("id", "").startswith("procedure")]
+        assert [row["name"] for row in own][0] == str(names.index("main")), own[0]
+        assert all(row["id"] == f"procedure{row['name']}" for row in own), own
+        got = {names[int(row["name"])]: (row["class"], row["label"]) for row in own}
+        assert len(own) == len(got) and got == wanted_nodes(source), got
+        numbers = {row["_gvid"]: names[int(row["name"])] for row in own}
+        edges = [row for row in graph.get("edges", []) if row["tail"] in numbers]
+        shown = {
+            (numbers[row["tail"]], numbers[row["head"]]): (row["class"], row["label"])
+            for row in edges
+        }
+        assert len(shown) == len(edges) and shown == wanted_edges(source), shown
+
+
 def check_paths(source: bytes) -> None:
     """With paths each line is as its schema says, and a copy that lacks a field is not."""
     words = ["--format", "json", "--paths"]
@@ -647,6 +748,7 @@ CHECKS = (
     check_page,
     check_picture,
     check_dot,
+    check_calls,
 )
 
 
@@ -672,4 +774,5 @@ def main() -> int:
     return 1 if failed else 0
 
 
-sys.exit(main())
+if __name__ == "__main__":
+    sys.exit(main())

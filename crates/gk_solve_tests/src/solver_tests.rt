@@ -477,7 +477,11 @@ fn rounds_go_up_and_down(rt: HostRuntime) -> Result<(), Fail> {
     write_neighbours(&mut text)?;
     let visits = visits(rt.alloc(), text.as_bytes())?;
     let (for_flags, for_all) = visits.expect(&rt, "a graph");
-    let points = 2 + 6 * u64::from(NEIGHBOURS);
+    let neighbours = u64::from(NEIGHBOURS);
+    let points = 2 + 6 * neighbours;
+    // A call is visited once more for the exit that it waits for.
+    let calls = 1 + 2 * neighbours;
+    assert!(rt; for_flags <= points + calls);
     assert!(rt; for_all <= for_flags + 4 * points);
     Ok(())
 }
