@@ -1,6 +1,5 @@
 -- Frames of searches, and what they find
 use Rattle.std.proofs.Common.{◌≡◌, ◌≤◌, ◌↔◌, ℕ, Bool, true, false, List, [], slice_index_or, refl, sym, ap, subst}
-use Rattle.tac_program.specs.Sound.{IsSound}
 use Rattle.flow_graph.specs.Paths.{Shape, Transfer, HasPath, SomePathHas}
 use Rattle.flow_graph.specs.Points.{point_count}
 use Rattle.flow_links.specs.Shapes.{IsNumbered, LinkedProgram, directed_shape}

@@ -1,7 +1,6 @@
 -- What a frame says of the question that a search answers.
-use Rattle.std.specs.Prelude.{◌≡◌, ◌<◌, ◌≤◌, ◌-◌, ℕ, Bool, true, false, slice_index_or, if◌then◌else◌}
-use Rattle.flow_graph.specs.declared.edge.Edge.TheVariants.{Call}
-use Rattle.flow_graph.specs.Paths.{Transfer, IsEdge}
+use Rattle.std.specs.Prelude.{◌≡◌, ◌<◌, ◌≤◌, ℕ, Bool, true, false, slice_index_or, if◌then◌else◌}
+use Rattle.flow_graph.specs.Paths.{Transfer}
 use Rattle.flow_graph.specs.Points.{point_count}
 use Rattle.flow_links.specs.Shapes.{IsNumbered, LinkedProgram, after_site, call_site, directed_shape}
 use Rattle.gen_kill.specs.Selections.{Selection, column_count, column_transfer}

@@ -1,7 +1,6 @@
 -- What ways are, and what a search for a bit stands on.
 use Rattle.std.specs.Prelude.{◌≡◌, ◌<◌, ◌≤◌, ℕ, true}
-use Rattle.flow_graph.specs.declared.edge.Edge.TheVariants.{Call}
-use Rattle.flow_graph.specs.Paths.{Transfer, IsEdge}
+use Rattle.flow_graph.specs.Paths.{Transfer}
 use Rattle.flow_graph.specs.Points.{point_count}
 use Rattle.flow_links.specs.Shapes.{IsNumbered, LinkedProgram, directed_shape}
 use Rattle.tac_program.specs.Programs.{Program}
