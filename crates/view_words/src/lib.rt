@@ -2,6 +2,7 @@
 #![tactic(auto)]
 
 mod facts;
+mod formats;
 mod options;
 mod words;
 

@@ -8,15 +8,18 @@ ghost use Rattle.flow_runs.specs.Words.{AreKindsOf, flag_rule, has_flag, kind_ru
 ghost use Rattle.flow_runs.specs.code.Matches.{HoldsKind};
 ghost use Rattle.part_texts.specs.Shares.{some_share};
 ghost use Rattle.view_words.specs.Commands.{AnswersWords, NamesOptions, format_queried, has_look, has_part, is_bare};
-ghost use Rattle.view_words.specs.Commands.{block_format, call_format, fits_blocks, has_paths, has_picture, has_title, is_given, is_plain, lines_format, looks_at_facts};
-ghost use Rattle.view_words.specs.Commands.{looks_at_points, shape_command, shows_no_facts};
+ghost use Rattle.view_words.specs.Commands.{block_format, call_format, fits_blocks, has_paths, has_picture, has_title, is_given, is_plain, lines_format};
+ghost use Rattle.view_words.specs.Commands.{looks_at_facts, looks_at_points, shape_command, shows_no_facts};
 ghost use Rattle.view_words.specs.Commands.{knows_facts, look_command, look_queried};
 ghost use Rattle.view_words.specs.Commands.{form_command, known_share, knows_share, option_kinds, part_command, picture_command, part_format, shown_format};
 ghost use Rattle.view_words.specs.Commands.{tacview_command, view_command};
-ghost use Rattle.view_words.specs.Kinds.{facts_queried, format_named, formats as known_formats, with_blocks, with_calls, with_changes, with_part, with_paths, with_picture, with_title};
+ghost use Rattle.view_words.specs.Kinds.{facts_queried, format_named, formats as known_formats, with_paths};
 ghost use Rattle.view_words.specs.code.Matches.{HoldsOptions};
 
 use crate::facts::{facts_by, facts_of};
+use crate::formats::{
+    with_blocks, with_calls, with_changes, with_part, with_paths, with_picture, with_title,
+};
 use crate::options::{Asked, Format, Options};
 use clap::builder::PossibleValue;
 use clap::error::ErrorKind;
@@ -349,46 +352,6 @@ fn format_by(matches: &ArgMatches<'_>) -> Format
     format_of(kind_word(matches, "format")).unwrap()
 }
 
-// The format with paths, where they are asked for. None where it has none.
-fn with_paths(is: bool, format: Format) -> Option<Format>
-    ensures { result ≡ with_paths is format }
-{
-    if !is {
-        return Some(format);
-    }
-    match format {
-        Format::Dot => None,
-        Format::Calls => None,
-        Format::Blocks => None,
-        Format::Json => Some(Format::JsonPaths),
-        Format::JsonPaths => Some(Format::JsonPaths),
-        Format::JsonChanges => None,
-        Format::Report => None,
-        Format::Html => Some(Format::HtmlPaths),
-        Format::HtmlPaths => Some(Format::HtmlPaths),
-    }
-}
-
-// The format with differences, where they are asked for. None where it has none.
-fn with_changes(is: bool, format: Format) -> Option<Format>
-    ensures { result ≡ with_changes is format }
-{
-    if !is {
-        return Some(format);
-    }
-    match format {
-        Format::Dot => Some(Format::Dot),
-        Format::Calls => None,
-        Format::Blocks => None,
-        Format::Json => Some(Format::JsonChanges),
-        Format::JsonPaths => None,
-        Format::JsonChanges => Some(Format::JsonChanges),
-        Format::Report => None,
-        Format::Html => None,
-        Format::HtmlPaths => None,
-    }
-}
-
 // How a picture is to look.
 fn look_found(matches: &ArgMatches<'_>) -> Look
     ensures { result ≡ look_queried (rows_of (found_of matches.now)) }
@@ -416,26 +379,6 @@ fn has_picture(matches: &ArgMatches<'_>) -> bool
     match matches.get_str("because") {
         Some(_) => true,
         None => has_look(look_found(matches)),
-    }
-}
-
-// The format, where it fits to that. None where it is no picture.
-fn with_picture(is: bool, format: Format) -> Option<Format>
-    ensures { result ≡ with_picture is format }
-{
-    if !is {
-        return Some(format);
-    }
-    match format {
-        Format::Dot => Some(Format::Dot),
-        Format::Calls => Some(Format::Calls),
-        Format::Blocks => Some(Format::Blocks),
-        Format::Json => None,
-        Format::JsonPaths => None,
-        Format::JsonChanges => None,
-        Format::Report => None,
-        Format::Html => None,
-        Format::HtmlPaths => None,
     }
 }
 
@@ -494,26 +437,6 @@ fn is_plain(matches: &ArgMatches<'_>) -> bool
     )
 }
 
-// The format with the call graph, where it is asked for. None where it has none.
-fn with_calls(is: bool, plain: bool, format: Format) -> Option<Format>
-    ensures { result ≡ with_calls is plain format }
-{
-    if !is {
-        return Some(format);
-    }
-    match format {
-        Format::Dot => { if plain { Some(Format::Calls) } else { None } },
-        Format::Calls => { if plain { Some(Format::Calls) } else { None } },
-        Format::Blocks => None,
-        Format::Json => None,
-        Format::JsonPaths => None,
-        Format::JsonChanges => None,
-        Format::Report => None,
-        Format::Html => None,
-        Format::HtmlPaths => None,
-    }
-}
-
 // Whether it is a look that blocks have not.
 fn looks_at_points(look: Look) -> bool
     ensures { result ≡ looks_at_points look }
@@ -536,26 +459,6 @@ fn fits_blocks(matches: &ArgMatches<'_>) -> bool
         looks_at_points(look_found(matches)),
         is_given(matches, "because"),
     )
-}
-
-// The format with blocks, where they are asked for. None where it has none.
-fn with_blocks(is: bool, fits: bool, format: Format) -> Option<Format>
-    ensures { result ≡ with_blocks is fits format }
-{
-    if !is {
-        return Some(format);
-    }
-    match format {
-        Format::Dot => { if fits { Some(Format::Blocks) } else { None } },
-        Format::Calls => None,
-        Format::Blocks => { if fits { Some(Format::Blocks) } else { None } },
-        Format::Json => None,
-        Format::JsonPaths => None,
-        Format::JsonChanges => None,
-        Format::Report => None,
-        Format::Html => None,
-        Format::HtmlPaths => None,
-    }
 }
 
 // Whether a part was asked for.
@@ -585,26 +488,6 @@ fn is_bare(matches: &ArgMatches<'_>) -> bool
     match matches.get_str("procedure") {
         Some(_) => false,
         None => has_no_facts(matches),
-    }
-}
-
-// The format, where it fits to that. None where it has no parts.
-fn with_part(is: bool, bare: bool, format: Format) -> Option<Format>
-    ensures { result ≡ with_part is bare format }
-{
-    if !is {
-        return Some(format);
-    }
-    match format {
-        Format::Dot => None,
-        Format::Calls => None,
-        Format::Blocks => None,
-        Format::Json => { if bare { Some(Format::Json) } else { None } },
-        Format::JsonPaths => None,
-        Format::JsonChanges => None,
-        Format::Report => Some(Format::Report),
-        Format::Html => None,
-        Format::HtmlPaths => None,
     }
 }
 
@@ -670,26 +553,6 @@ fn has_title(matches: &ArgMatches<'_>) -> bool
     match matches.get_str("title") {
         Some(_) => true,
         None => false,
-    }
-}
-
-// The format, where it fits to that. None where it has no title.
-fn with_title(is: bool, format: Format) -> Option<Format>
-    ensures { result ≡ with_title is format }
-{
-    if !is {
-        return Some(format);
-    }
-    match format {
-        Format::Dot => None,
-        Format::Calls => None,
-        Format::Blocks => None,
-        Format::Json => None,
-        Format::JsonPaths => None,
-        Format::JsonChanges => None,
-        Format::Report => None,
-        Format::Html => Some(Format::Html),
-        Format::HtmlPaths => Some(Format::HtmlPaths),
     }
 }
 
@@ -801,10 +664,10 @@ fn named_options(
 
 impl Options {
     /// The options that the program's words name, of which the first is the program's own name:
-    /// `tacview [--format KIND] [--facts LIST] [--hide-entry] [--facts-behind] [--facts-on-hover] [--legend] [--calls] [--blocks] [--procedure NAME] [--paths]
-    /// [--changes] [--because PLACE] [--part K/N] [--title TEXT] [--limits SIZE] [--workers N] [--cut N]`. Without an option stands its default: `dot`, no facts for it and all
-    /// for `json` and `html`, with entries and none behind, all procedures, no paths, sets and no differences, no path that is marked, the
-    /// whole report, no title, `standard`, 1 and 64.
+    /// `tacview [--format KIND] [--facts LIST] [--hide-entry] [--facts-behind] [--facts-on-hover] [--legend] [--calls] [--blocks]
+    /// [--procedure NAME] [--paths] [--changes] [--because PLACE] [--part K/N] [--title TEXT] [--limits SIZE] [--workers N] [--cut N]`. Without an
+    /// option stands its default: `dot`, no facts for it and all for `json` and `html`, with entries and none behind, points, all procedures, no
+    /// paths, sets and no differences, no path that is marked, the whole report, no title, `standard`, 1 and 64.
     ///
     /// Refuses words that the command does not take, a number outside its range, a word that is no format or no limits, a list that names
     /// no facts and words that name no part among them, and a call for help; what a format does not have: paths with others than `json` and
