@@ -1,6 +1,7 @@
 // The calls of a program.
 
-ghost use Rattle.std.specs.Prelude.{◌≡◌, ℕ, ◌+◌, ◌<◌, ◌≤◌, ◌++◌, ◌∷◌, [], false, All, IfOk, OnOk, flat_map, get_or, length, map, nat_eq, slice_index, if◌then◌else◌};
+ghost use Rattle.std.specs.Prelude.{◌≡◌, ℕ, ◌+◌, ◌<◌, ◌≤◌, ◌++◌, ◌∷◌, [], false};
+ghost use Rattle.std.specs.Prelude.{All, IfOk, OnOk, flat_map, get_or, length, map, nat_eq, slice_index, if◌then◌else◌};
 ghost use Rattle.std.specs.List.{list_any};
 ghost use Rattle.flow_graph.specs.Edges.{callees_at, callees_named};
 ghost use Rattle.flow_graph.specs.Points.{point_count, procedure_at};
