@@ -239,7 +239,7 @@ def ladder(points: int = 16000, bits: int = 4000) -> str:
 def points_each(points: int, procedures: int) -> int:
     need(
         procedures <= most_procedures(points),
-        "a program has at most 256 procedures, and one of more than 16,384 points 16,384",
+        "a program has at most 256 procedures, and one of more than 16,384 points 262,144",
     )
     return points // procedures
 

@@ -35,8 +35,8 @@ class Skeleton:
             "a procedure takes two points: fewer procedures or more points",
         )
         need(
-            procedures <= 16384,
-            "a program has at most 16,384 procedures, and within the standard limits 256",
+            procedures <= 262144,
+            "a program has at most 262,144 procedures, and within the standard limits 256",
         )
         need(bits >= 2, "two definitions are needed")
         self.random = random.Random(seed)

@@ -9,7 +9,9 @@ from collections.abc import Callable, Iterator
 from .texts import LETTERS, LIMIT, SIGNS, filled, repeated, width
 from .writing import need
 
-LARGE_LIMIT = 1 << 26
+LARGE_LIMIT = 1 << 29
+# How long a text is where nothing else is said.
+LARGE_TEXT = 1 << 26
 KEYWORDS = "proc end goto if ifFalse call return read print skip main".split()
 
 
@@ -22,39 +24,39 @@ def short_names() -> Iterator[str]:
                 yield name
 
 
-def short_labels(size: int = LARGE_LIMIT) -> str:
+def short_labels(size: int = LARGE_TEXT) -> str:
     """labels with the shortest names, all on one line"""
     return filled("proc main\n", (name + ":" for name in short_names()), "\nend\n", size)
 
 
-def short_copies(size: int = LARGE_LIMIT) -> str:
+def short_copies(size: int = LARGE_TEXT) -> str:
     """the shortest statements that name two variables"""
     return repeated("proc main\n", lambda number: "a=b\n", "end\n", size)
 
 
-def short_sums(size: int = LARGE_LIMIT) -> str:
+def short_sums(size: int = LARGE_TEXT) -> str:
     """the shortest statements of five tokens"""
     return repeated("proc main\n", lambda number: "a=b+c\n", "end\n", size)
 
 
-def short_variables(size: int = LARGE_LIMIT) -> str:
+def short_variables(size: int = LARGE_TEXT) -> str:
     """a new variable of the shortest name in each statement"""
     return filled("proc main\n", (name + "=1\n" for name in short_names()), "end\n", size)
 
 
-def short_procedures(size: int = LARGE_LIMIT) -> str:
+def short_procedures(size: int = LARGE_TEXT) -> str:
     """procedures with the shortest names, refused at the first that is too many"""
     return filled("proc main\nend\n", ("proc %s\nend\n" % name for name in short_names()), "", size)
 
 
-def label_tables(size: int = LARGE_LIMIT) -> str:
+def label_tables(size: int = LARGE_TEXT) -> str:
     """procedures with a label each, refused at the first that is too many"""
     return filled(
         "proc main\nend\n", ("proc %s\na:\nend\n" % name for name in short_names()), "", size
     )
 
 
-def label_fault(size: int = LARGE_LIMIT) -> str:
+def label_fault(size: int = LARGE_TEXT) -> str:
     """labels on one line, at the end of which a bad byte stands"""
     digits = width(size, 6)
     return repeated("proc main\n", lambda number: "n%0*d:" % (digits, number), "@\nend\n", size)
@@ -79,7 +81,7 @@ def by_fold(count: int) -> Iterator[str]:
                 return
 
 
-def falling_labels(size: int = LARGE_LIMIT) -> str:
+def falling_labels(size: int = LARGE_TEXT) -> str:
     """procedures of 64 labels that fall together in a table without a seed, and of jumps to the
     last, refused where these are too many"""
     names = list(by_fold(64))
@@ -103,7 +105,7 @@ CROWDS = {
 }
 
 
-def crowding(size: int = LARGE_LIMIT, as_labels: int = 1) -> str:
+def crowding(size: int = LARGE_TEXT, as_labels: int = 1) -> str:
     """names that fall together in a table of the kit's hash behind any digest, as labels on one
     line, or with as_labels=0 as variables"""
     line = "%s:" if as_labels else "read %s\n"
@@ -116,7 +118,7 @@ def crowding(size: int = LARGE_LIMIT, as_labels: int = 1) -> str:
 def row(procedures: int = 16384, back: int = 0, ring: int = 0) -> str:
     """procedures of which each calls the next, or with back=1 the one before; with ring=1 the last
     may call the first"""
-    need(1 <= procedures <= 16384, "a program has at most 16,384 procedures")
+    need(1 <= procedures <= 262144, "a program has at most 262,144 procedures")
     order = list(range(procedures))[:: -1 if back else 1]
     texts = {}
     for number in range(procedures):

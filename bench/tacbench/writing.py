@@ -52,7 +52,7 @@ class Fault(Exception):
 
 def most_procedures(points: int) -> int:
     """A program of more points than the standard limits allow is one for the large limits."""
-    return 256 if points <= 16384 else 16384
+    return 256 if points <= 16384 else 262144
 
 
 def need(holds: bool, message: str) -> None:

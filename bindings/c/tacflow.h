@@ -60,7 +60,7 @@ enum tacflow_status {
     TACFLOW_BAD_LIMITS = 7,       /* there are no limits of this number */
     TACFLOW_BAD_HANDLE = 8,       /* the handle is closed where it has to be open, or open where it has to be closed */
     TACFLOW_NOT_BUILT = 9,        /* the arrays stand for no program: the place says why and where */
-    TACFLOW_TOO_MANY_POINTS = 21, /* the program has more points than the limits allow: standard 16,384, large 1,048,576 */
+    TACFLOW_TOO_MANY_POINTS = 21, /* the program has more points than the limits allow: standard 16,384, large 16,777,216 */
     TACFLOW_TOO_MANY_BITS = 22    /* some analysis has more bits than the limits allow: standard 4,096, large: see tacflow_limits */
 };
 
@@ -68,7 +68,7 @@ enum tacflow_status {
  * have statuses of their own. */
 enum tacflow_limits {
     TACFLOW_STANDARD = 0, /* 1 MiB of text, 256 procedures, 16,384 points, 4,096 bits in each analysis */
-    TACFLOW_LARGE = 1     /* 64 MiB of text, 16,384 procedures, 1,048,576 points, 131,072 variables and as many expressions; definitions
+    TACFLOW_LARGE = 1     /* 512 MiB of text, 262,144 procedures, 16,777,216 points, 4,194,304 variables and as many expressions; definitions
                            * have no limit of their own */
 };
 

@@ -39,10 +39,10 @@ if TYPE_CHECKING:
 # More statements of gcc's than the first are no program within tacview's limits. What weighs no
 # more than the second mostly is one, where a function weighs as much as its statements and some
 # more. What weighs more than the third is not even tried.
-MANY_STATEMENTS = 800000
-PART = 400000
+MANY_STATEMENTS = 12_800_000
+PART = 6_400_000
 FUNCTION = 20
-HOPELESS = 1600000
+HOPELESS = 25_600_000
 
 
 @dataclass(frozen=True)

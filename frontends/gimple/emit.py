@@ -18,11 +18,11 @@ LONGEST_NAME = 64
 NO_NAME = re.compile(r"[^A-Za-z0-9_]")
 # tacview's larger limits.
 LIMITS = {
-    "procedures": 1 << 14,
-    "points": 1 << 20,
-    "variables": 1 << 17,
-    "expressions": 1 << 17,
-    "bytes of text": 1 << 26,
+    "procedures": 1 << 18,
+    "points": 1 << 24,
+    "variables": 1 << 22,
+    "expressions": 1 << 22,
+    "bytes of text": 1 << 29,
 }
 
 

@@ -2,11 +2,11 @@
 
 const IS_LARGE: bool = cfg!(feature = "large");
 
-pub const TEXT_LIMIT: usize = if IS_LARGE { 1 << 26 } else { 1 << 20 };
-pub const PROCEDURE_LIMIT: usize = if IS_LARGE { 1 << 14 } else { 1 << 8 };
-pub const POINT_LIMIT: usize = if IS_LARGE { 1 << 20 } else { 1 << 14 };
+pub const TEXT_LIMIT: usize = if IS_LARGE { 1 << 29 } else { 1 << 20 };
+pub const PROCEDURE_LIMIT: usize = if IS_LARGE { 1 << 18 } else { 1 << 8 };
+pub const POINT_LIMIT: usize = if IS_LARGE { 1 << 24 } else { 1 << 14 };
 /// Of variables and of expressions.
-pub const BIT_LIMIT: usize = if IS_LARGE { 1 << 17 } else { 1 << 12 };
+pub const BIT_LIMIT: usize = if IS_LARGE { 1 << 22 } else { 1 << 12 };
 /// The large limits have none of their own for definitions.
 pub const DEFINITION_LIMIT: usize = if IS_LARGE { usize::MAX } else { BIT_LIMIT };
 

@@ -3,7 +3,6 @@
 use crate::bit_names::BitNames;
 use crate::facts::{COMPUTED, DEAD, Findings, Flows, UNSET_FIRST, UNSET_SECOND};
 use crate::graph::{Graph, NONE};
-use crate::limits::BIT_LIMIT;
 use crate::output::{Decimal, Output};
 use crate::program::{Form, Program, Statement};
 use crate::transfer::Analysis;
@@ -168,9 +167,8 @@ impl<'w> ReportWriter<'w> {
     }
 
     fn busy(&mut self, test: usize, expressions: usize) -> io::Result<()> {
-        let mut words = [0; BIT_LIMIT / 64];
-        let words = &mut words[..expressions.div_ceil(64)];
-        self.findings.busy.copy(test, words);
+        let mut words = vec![0; expressions.div_ceil(64)];
+        self.findings.busy.copy(test, &mut words);
         for (place, word) in words.iter().enumerate() {
             let mut left = *word;
             while left != 0 {

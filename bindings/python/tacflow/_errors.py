@@ -31,8 +31,8 @@ REFUSALS = {
 }
 # What is told in their place within the large limits.
 LARGE_REFUSALS = {
-    11: Refusal("TextTooLong", "more than 67,108,864 bytes"),
-    12: Refusal("TooManyProcedures", "more than 16,384 procedures"),
+    11: Refusal("TextTooLong", "more than 536,870,912 bytes"),
+    12: Refusal("TooManyProcedures", "more than 262,144 procedures"),
 }
 
 

@@ -27,7 +27,7 @@ class Limits(enum.IntEnum):
     STANDARD = 0
     """1 MiB of text, 256 procedures, 16,384 points, 4,096 bits in each analysis."""
     LARGE = 1
-    """64 MiB of text, 16,384 procedures, 1,048,576 points, 131,072 variables and as many
+    """512 MiB of text, 262,144 procedures, 16,777,216 points, 4,194,304 variables and as many
     expressions."""
 
 

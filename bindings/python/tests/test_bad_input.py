@@ -77,8 +77,8 @@ class Refusals(unittest.TestCase):
                     tacflow.open(text, "large")
                 told = caught.exception
                 self.assertEqual((told.number, told.line, told.column), (number, line, column))
-        with self.assertRaisesRegex(tacflow.Refused, "TextTooLong: more than 67,108,864 bytes"):
-            tacflow.open(b"#" * (64 * LONGEST + 1), "large")
+        with self.assertRaisesRegex(tacflow.Refused, "TextTooLong: more than 536,870,912 bytes"):
+            tacflow.open(b"#" * (512 * LONGEST + 1), "large")
 
     def test_too_large(self) -> None:
         with self.assertRaisesRegex(tacflow.TooManyPoints, "more points than the limits allow"):

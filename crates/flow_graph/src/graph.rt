@@ -137,7 +137,7 @@ impl<'p> Graph<'p> {
         self.points.program()
     }
 
-    /// How many points there are: at most 1,048,576.
+    /// How many points there are: at most 16,777,216.
     pub fn points(&self) -> u32
         ensures count { result ≡ point_count self.now }
         ensures few { HasFewPoints Large self.now }
@@ -163,11 +163,11 @@ impl<'p> Graph<'p> {
         self.points.place(point)
     }
 
-    /// How many bits an analysis has: at most 1,179,648.
+    /// How many bits an analysis has: at most 20,971,520.
     pub fn bits(&self, analysis: Analysis) -> u32
         ensures count { result ≡ bits self.now analysis }
         ensures few { HasFewBits Large self.now }
-        ensures most { result ≤ 1179648 }
+        ensures most { result ≤ most_definitions Large }
     {
         match analysis {
             Analysis::Reach => self.definitions.len() as u32,

@@ -8,6 +8,7 @@ ghost use Rattle.flow_graph.specs.Points.{point_count};
 ghost use Rattle.flow_links.specs.LinkLists.{AreStepsFrom, AreCallsFrom, AreCallersOf, AreSitesIn};
 ghost use Rattle.flow_links.specs.Shapes.{directed_shape, IsNumbered};
 ghost use Rattle.flow_links.specs.Tables.LinkTables.{AreEach};
+ghost use Rattle.tac_program.specs.Limits.{most_procedures};
 
 use crate::OutOfMemory;
 use crate::link::{CallLink, SiteLink};
@@ -193,7 +194,7 @@ impl Links {
         Ok(links.with_orders(points, procedures))
     }
 
-    /// How many points there are: at most 1,048,576.
+    /// How many points there are: at most 16,777,216.
     pub fn points(&self) -> u32
         ensures count { result ≡ point_count self.now.program }
         ensures few { HasFewPoints Large self.now.program }
@@ -202,10 +203,10 @@ impl Links {
         self.procedures.len() as u32
     }
 
-    /// How many procedures there are: at most 16,384.
+    /// How many procedures there are: at most 262,144.
     pub fn procedures(&self) -> u32
         ensures count { result ≡ (directed_shape self.now).procedures }
-        ensures few { (directed_shape self.now).procedures ≤ 16384 }
+        ensures few { (directed_shape self.now).procedures ≤ most_procedures Large }
     {
         self.entries.len() as u32
     }

@@ -8,6 +8,8 @@ ghost use Rattle.flow_links.specs.Shapes.{after_site, call_site, directed_shape}
 ghost use Rattle.flow_why.specs.PointBits.{step_statement};
 ghost use Rattle.flow_why.specs.code.Frames.{IsFrame, call_after, effect_of, scope_of, step_begin, step_end, transfer_for};
 ghost use Rattle.flow_why.specs.code.Marked.{BaseHas};
+ghost use Rattle.tac_program.specs.Limits.{most_points};
+ghost use Rattle.tac_program.specs.declared.limits.Limits.TheVariants.{Large};
 
 use crate::claim::Claim;
 use crate::hop::Effect;
@@ -156,7 +158,7 @@ fn site_of_call(direction: Direction, point: u32) -> u32
 
 // The point to which the calls of a site return.
 fn point_after(direction: Direction, site: u32) -> u32
-    requires { site < 1048576 }
+    requires { site < most_points Large }
     ensures { result ≡ after_site (goes_backward direction) site }
 {
     match direction {

@@ -1,6 +1,8 @@
 // Marked points in the order in which they were marked.
 ghost use Rattle.std.specs.Prelude.{◌≡◌, ◌+◌, ◌<◌, ◌≤◌, ◌↔◌, ℕ, [], true, IfOk, OnOk, MatchOption, length, slice_index};
 ghost use Rattle.flow_why.specs.code.Found.{AreTaken, IsNext, IsOrderly, IsPlaceOf, IsPut, IsThere, mark_at, no_marks, one_taken, point_at};
+ghost use Rattle.tac_program.specs.Limits.{most_points};
+ghost use Rattle.tac_program.specs.declared.limits.Limits.TheVariants.{Large};
 
 use crate::OutOfMemory;
 use crate::mark::Mark;
@@ -52,7 +54,7 @@ fn blank_again(places: &mut Vec<u32>, found: &[Mark])
 impl Marks {
     /// No marks of so many points.
     pub fn blank(alloc: Global, points: u32) -> Result<Self, OutOfMemory>
-        requires { points ≤ 1048576 }
+        requires { points ≤ most_points Large }
         ensures { IfOk result (λ marks. marks ≡ record { points = points; found = []; taken = 0 }) }
     {
         let places = vec![in alloc; 0; points as usize]?;

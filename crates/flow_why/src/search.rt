@@ -1,6 +1,8 @@
 // The three lists of a search.
 ghost use Rattle.std.specs.Prelude.{◌≡◌, ◌<◌, ◌≤◌, ◌↔◌, true, [], IfOk, OnOk, MatchOption};
 ghost use Rattle.flow_why.specs.code.Found.{Ends, Has, IsPutIn, IsTaken, no_marks, nothing_found, marks_of};
+ghost use Rattle.tac_program.specs.Limits.{most_points};
+ghost use Rattle.tac_program.specs.declared.limits.Limits.TheVariants.{Large};
 
 use crate::OutOfMemory;
 use crate::claim::Claim;
@@ -38,7 +40,7 @@ impl Drop for Search {
 impl Search {
     /// Nothing is found at so many points.
     pub fn blank(alloc: Global, points: u32) -> Result<Self, OutOfMemory>
-        requires { points ≤ 1048576 }
+        requires { points ≤ most_points Large }
         ensures { IfOk result (λ search. search ≡ nothing_found points) }
     {
         let holds = Marks::blank(alloc, points)?;

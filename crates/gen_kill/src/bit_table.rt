@@ -3,6 +3,8 @@
 ghost use Rattle.std.specs.Prelude.{◌≡◌, ◌+◌, ◌*◌, ◌/◌, ◌<◌, ◌≤◌, ◌||◌, ◌&&◌, ℕ, length, IfOk, nat_eq, false};
 ghost use Rattle.bit_rows.specs.Words.{has_bit};
 ghost use Rattle.gen_kill.specs.code.BitTables.{HasRow, IsBlank, table_has};
+ghost use Rattle.tac_program.specs.Limits.{most_variables};
+ghost use Rattle.tac_program.specs.declared.limits.Limits.TheVariants.{Large};
 
 use crate::OutOfMemory;
 use bit_rows::words_for;
@@ -22,7 +24,7 @@ pub struct BitTable {
 impl BitTable {
     /// So many rows, each of so many bits, and none set.
     pub(crate) fn blank(alloc: Global, rows: u32, bits: u32) -> Result<BitTable, OutOfMemory>
-        requires rows { rows ≤ 131072 }
+        requires rows { rows ≤ most_variables Large }
         requires bits { bits ≤ 512 }
         ensures { IfOk result (λ t. IsBlank rows bits t.words.items t.width) }
     {

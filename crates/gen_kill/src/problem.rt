@@ -16,6 +16,7 @@ ghost use Rattle.flow_graph.specs.Points.{end_point, point_count, procedure_at};
 ghost use Rattle.flow_graph.specs.Universes.{bits as bits_of};
 ghost use Rattle.tac_program.specs.Sound.{IsSound};
 ghost use Rattle.tac_program.specs.declared.limits.Limits.TheVariants.{Large};
+ghost use Rattle.tac_program.specs.Limits.{most_definitions, most_variables};
 
 use crate::OutOfMemory;
 use crate::bit_table::BitTable;
@@ -156,7 +157,7 @@ impl<'g, 'p> Problem<'g, 'p> {
         program.main()
     }
 
-    /// How many procedures there are: at most 16,384.
+    /// How many procedures there are: at most 262,144.
     pub fn procedures(&self) -> u32
         ensures count { result ≡ length self.now.program.procedures }
         ensures sound { IsSound self.now.program }
@@ -212,7 +213,7 @@ impl<'g, 'p> Problem<'g, 'p> {
         self.graph.directed_edges(alloc, self.analysis)
     }
 
-    /// How many points there are: at most 1,048,576.
+    /// How many points there are: at most 16,777,216.
     pub fn points(&self) -> u32
         ensures count { result ≡ point_count self.now.program }
         ensures few { HasFewPoints Large self.now.program }
@@ -220,19 +221,19 @@ impl<'g, 'p> Problem<'g, 'p> {
         self.graph.points()
     }
 
-    /// How many variables there are: at most 131,072.
+    /// How many variables there are: at most 4,194,304.
     pub fn variables(&self) -> u32
         ensures count { result ≡ length self.now.program.variable_names }
-        ensures few { result ≤ 131072 }
+        ensures few { result ≤ most_variables Large }
     {
         self.graph.bits(Analysis::Live)
     }
 
-    /// How many columns there are: at most 1,179,648.
+    /// How many columns there are: at most 20,971,520.
     pub fn bits(&self) -> u32
         ensures count { result ≡ column_count self.now }
         ensures few { HasFewBits Large self.now.program }
-        ensures most { result ≤ 1179648 }
+        ensures most { result ≤ most_definitions Large }
         ensures chosen { IsChosenOf self.now.program self.now.analysis self.now.chosen }
     {
         self.columns.count(self.graph.bits(self.analysis))

@@ -237,7 +237,7 @@ const FAILED: &[Failed] = &[
     (
         Limits::Large,
         Fault::Graph(GraphFault::TooManyPoints),
-        "a\\x1b.tac: the program has more than 1048576 points: each statement has one, and each `end` (refusal 21)\n",
+        "a\\x1b.tac: the program has more than 16777216 points: each statement has one, and each `end` (refusal 21)\n",
     ),
     (
         Limits::Standard,
@@ -248,7 +248,7 @@ const FAILED: &[Failed] = &[
     (
         Limits::Large,
         Fault::Graph(GraphFault::TooManyBits),
-        "a\\x1b.tac: the program has more than 131072 variables, 131072 expressions, or 1179648 variables and assignments together \
+        "a\\x1b.tac: the program has more than 4194304 variables, 4194304 expressions, or 20971520 variables and assignments together \
         (refusal 22)\n",
     ),
     (

@@ -12,25 +12,25 @@ longest_name = 64
 -- bytes of a text
 abbrev pub longest_text : Limits → ℕ
 longest_text Standard = 1048576
-longest_text Large = 67108864
+longest_text Large = 536870912
 
 abbrev pub most_procedures : Limits → ℕ
 most_procedures Standard = 256
-most_procedures Large = 16384
+most_procedures Large = 262144
 
 abbrev pub most_points : Limits → ℕ
 most_points Standard = 16384
-most_points Large = 1048576
+most_points Large = 16777216
 
 abbrev pub most_variables : Limits → ℕ
 most_variables Standard = 4096
-most_variables Large = 131072
+most_variables Large = 4194304
 
 abbrev pub most_expressions : Limits → ℕ
 most_expressions Standard = 4096
-most_expressions Large = 131072
+most_expressions Large = 4194304
 
 -- The large ones have no limit of their own for definitions: a program has at most one a point, and one a variable.
 abbrev pub most_definitions : Limits → ℕ
 most_definitions Standard = 4096
-most_definitions Large = 1179648
+most_definitions Large = 20971520

@@ -7,8 +7,8 @@ ghost use Rattle.tac_program.specs.Limits.{longest_text, most_definitions, most_
 pub enum Limits {
     /// A text of 1,048,576 bytes, 256 procedures, 16,384 points, 4,096 bits in each analysis.
     Standard,
-    /// A text of 67,108,864 bytes, 16,384 procedures, 1,048,576 points, 131,072 variables and as many expressions. Definitions have no
-    /// limit of their own.
+    /// A text of 536,870,912 bytes, 262,144 procedures, 16,777,216 points, 4,194,304 variables and as many expressions. Definitions have
+    /// no limit of their own.
     Large,
 }
 
@@ -19,7 +19,7 @@ impl Limits {
     {
         match self {
             Limits::Standard => 1_048_576,
-            Limits::Large => 67_108_864,
+            Limits::Large => 536_870_912,
         }
     }
 
@@ -29,7 +29,7 @@ impl Limits {
     {
         match self {
             Limits::Standard => 256,
-            Limits::Large => 16_384,
+            Limits::Large => 262_144,
         }
     }
 
@@ -39,7 +39,7 @@ impl Limits {
     {
         match self {
             Limits::Standard => 16_384,
-            Limits::Large => 1_048_576,
+            Limits::Large => 16_777_216,
         }
     }
 
@@ -49,7 +49,7 @@ impl Limits {
     {
         match self {
             Limits::Standard => 4_096,
-            Limits::Large => 131_072,
+            Limits::Large => 4_194_304,
         }
     }
 
@@ -59,7 +59,7 @@ impl Limits {
     {
         match self {
             Limits::Standard => 4_096,
-            Limits::Large => 131_072,
+            Limits::Large => 4_194_304,
         }
     }
 
@@ -69,7 +69,7 @@ impl Limits {
     {
         match self {
             Limits::Standard => 4_096,
-            Limits::Large => 1_179_648,
+            Limits::Large => 20_971_520,
         }
     }
 }

@@ -342,14 +342,14 @@ fn check_procedures_within_large(
 fn counts_procedures_within_large_limits(rt: HostRuntime) -> Result<(), OutOfMemory> {
     let alloc = rt.alloc();
     check_procedures_within_large(&rt, alloc, 256)?;
-    check_procedures_within_large(&rt, alloc, 16_383)?;
+    check_procedures_within_large(&rt, alloc, 262_143)?;
     // Each procedure is two lines.
-    let over = procedures(alloc, 16_384)?;
+    let over = procedures(alloc, 262_144)?;
     check_within_large(
         &rt,
         alloc,
         over.as_bytes(),
-        "32769:6: refusal 12: TooManyProcedures",
+        "524289:6: refusal 12: TooManyProcedures",
     )
 }
 
@@ -373,7 +373,7 @@ fn counts_bytes_within_large_limits(rt: HostRuntime) -> Result<(), OutOfMemory> 
     let alloc = rt.alloc();
     let lines = lines_behind(alloc, 1_048_563)?;
     check_within_large(&rt, alloc, lines.as_bytes(), "proc main\nend\n")?;
-    check_blanks(&rt, alloc, 67_108_865, "1:1: refusal 11: TextTooLong")
+    check_blanks(&rt, alloc, 536_870_913, "1:1: refusal 11: TextTooLong")
 }
 
 const LISTED: &[(&[u8], &str)] = &[

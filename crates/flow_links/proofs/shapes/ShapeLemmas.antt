@@ -24,6 +24,7 @@ use Rattle.flow_links.specs.declared.list_kind.ListKind.{ListKind}
 use Rattle.flow_links.specs.declared.list_kind.ListKind.TheVariants.{Steps, Calls, Callers, Sites}
 use Rattle.flow_links.specs.Shapes.{directed_shape, IsNumbered}
 use Rattle.flow_links.proofs.shapes.Sites.{sites_in}
+use Rattle.tac_program.specs.Limits.{most_points, most_procedures}
 
 -- the may form of each analysis has the shape of its direction
 pub may_shape_is_directed : (program : Program) (analysis : Analysis)
@@ -92,8 +93,8 @@ module _ (program : Program) (sound : IsSound program) where
 -- what holds of the numbers of a may form
 pub record AreInRange (program : Program) (analysis : Analysis) : Type 0 where
   pub numbered : IsNumbered (may_shape program analysis) (is_backward analysis) (point_count program)
-  pub few : point_count program ≤ 1048576
-  pub few_procedures : (may_shape program analysis).procedures ≤ 16384
+  pub few : point_count program ≤ most_points Large
+  pub few_procedures : (may_shape program analysis).procedures ≤ most_procedures Large
   pub procedures_are : (may_shape program analysis).procedures ≡ length program.procedures
   pub procedure_is : (x : ℕ) → (may_shape program analysis).procedure_of x ≡ procedure_at program x
   pub root_is : (may_shape program analysis).root_procedure ≡ main_procedure program
@@ -146,7 +147,7 @@ key_low range Sites (Call site x y) there =
 key_low range Sites (Ret site x y) there = omega arith
 
 pub keys_few : {program : Program} {analysis : Analysis} → AreInRange program analysis → (kind : ListKind)
-    → keys_of kind (may_shape program analysis) (point_count program) ≤ 1048576
+    → keys_of kind (may_shape program analysis) (point_count program) ≤ most_points Large
 keys_few range Steps = range.few
 keys_few range Calls = range.few
 keys_few range Callers = range.few

@@ -11,6 +11,7 @@ use Rattle.flow_links.specs.Tables.EdgeLists.{AreListed, key_of, step_target, ca
 use Rattle.flow_links.specs.declared.link.CallLink.{CallLink}
 use Rattle.flow_links.specs.declared.link.SiteLink.{SiteLink}
 use Rattle.flow_links.specs.declared.list_kind.ListKind.TheVariants.{Steps, Calls, Callers, Sites}
+use Rattle.tac_program.specs.Limits.{most_procedures}
 
 -- so many numbers, each the one that its index stands for
 pub record AreEach (items : List ℕ) (many : ℕ) (of : ℕ → ℕ) : Type 0 where
@@ -28,7 +29,7 @@ pub record AreTables (form : MayForm) (backward : Bool) (root : ℕ) (entries ex
   pub same_direction : backward ≡ is_backward form.analysis
   pub few : HasFewPoints Large form.program
   pub numbered : IsNumbered (shape_of_form form) (is_backward form.analysis) (point_count form.program)
-  pub few_procedures : (shape_of_form form).procedures ≤ 16384
+  pub few_procedures : (shape_of_form form).procedures ≤ most_procedures Large
   pub root_is : root ≡ (shape_of_form form).root_procedure
   pub entries_are : AreEach entries (shape_of_form form).procedures (shape_of_form form).entry
   pub exits_are : AreEach exits (shape_of_form form).procedures (shape_of_form form).exit

@@ -7,6 +7,8 @@ use Rattle.std.proofs.lemmas.List.{get_or-set_same, get_or-set_other}
 use Rattle.std.proofs.lemmas.List.Sums.{sum_by-cons}
 use Rattle.flow_why.specs.code.Found.{IsIndexed, blank_places, point_at}
 use Rattle.flow_why.specs.declared.mark.Mark.{Mark}
+use Rattle.tac_program.specs.Limits.{most_points}
+use Rattle.tac_program.specs.declared.limits.Limits.TheVariants.{Large}
 
 -- a place that is not 0 is that of a mark from one on
 pub record AreLeft (found : List Mark) (n : ℕ) (places : List ℕ) : Type 0 where
@@ -60,7 +62,7 @@ all_blank (place ∷ places) none =
 pub none_indexed : (found : List Mark) (places : List ℕ) (taken : ℕ) (new : List ℕ) → IsIndexed found places taken → length new ≡ length places
     → ((x : ℕ) → x < length places → get_or new x 0 ≡ 0) → IsIndexed [] new 0
 none_indexed found places taken new is count blank = record {
-  few = subst (λ n. n ≤ 1048576) (sym count) is.few;
+  few = subst (λ n. n ≤ most_points Large) (sym count) is.few;
   within = λ i low. absurd (omega (arith, low));
   placed = λ i low. absurd (omega (arith, low));
   marked = λ x i low at.

@@ -10,6 +10,8 @@ use Rattle.std.proofs.lemmas.List.Sums.{sum_by-set}
 use Rattle.flow_why.specs.code.Found.{IsBefore, IsIndexed, IsPlaceOf, IsPut, MarkList, blank_places, mark_at, point_at}
 use Rattle.flow_why.specs.declared.mark.Mark.{Mark}
 use Rattle.flow_why.specs.declared.mark.Reason.TheVariants.{Beginning}
+use Rattle.tac_program.specs.Limits.{most_points}
+use Rattle.tac_program.specs.declared.limits.Limits.TheVariants.{Large}
 
 abbrev none : Mark
 none = record { point = 0; reason = Beginning }
@@ -105,7 +107,7 @@ module _ (found : List Mark) (places : List ℕ) (taken : ℕ) (is : IsIndexed f
 
     pub indexed_more : IsIndexed (found ++ mark ∷ []) (set places mark.point (length found + 1)) taken
     indexed_more = record {
-      few = subst (λ n. n ≤ 1048576) (sym (length-set places mark.point (length found + 1))) is.few;
+      few = subst (λ n. n ≤ most_points Large) (sym (length-set places mark.point (length found + 1))) is.few;
       within = each_more (λ i m. m.point < length (set places mark.point (length found + 1)))
           (λ i below. subst (λ n. point_at found i < n) (sym (length-set places mark.point (length found + 1))) (is.within i below))
           (subst (λ n. mark.point < n) (sym (length-set places mark.point (length found + 1))) low);

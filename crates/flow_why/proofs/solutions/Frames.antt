@@ -26,8 +26,10 @@ use Rattle.flow_why.proofs.trails.Collecting.{nothing_based}
 use Rattle.flow_why.proofs.visits.Growing.{has_family}
 use Rattle.flow_why.specs.declared.hop.Hop.{Hop}
 use Rattle.flow_why.proofs.unfoldings.Moving.{witness_of}
+use Rattle.tac_program.specs.Limits.{most_points}
+use Rattle.tac_program.specs.declared.limits.Limits.TheVariants.{Large}
 
-pub sited : (linked : LinkedProgram) → point_count linked.program ≤ 1048576
+pub sited : (linked : LinkedProgram) → point_count linked.program ≤ most_points Large
     → IsNumbered (directed_shape linked) linked.backward (point_count linked.program) → IsSited linked
 sited linked few numbered = record { few = few; numbered = numbered }
 

@@ -26,6 +26,8 @@ use Rattle.flow_why.specs.declared.hop.Hop.TheVariants as hop
 use Rattle.flow_why.specs.declared.mark.Reason.TheVariants.{Beginning, Own, Base}
 use Rattle.flow_why.proofs.solutions.Sound.{callee_holds, enter_holds, gen_holds, pass_holds, root_holds, step_holds}
 use Rattle.flow_why.proofs.visits.Growing.{has_family}
+use Rattle.tac_program.specs.Limits.{most_points}
+use Rattle.tac_program.specs.declared.limits.Limits.TheVariants.{Large}
 
 -- a step that does not kill the bit
 crosses_kept : (transfer : Transfer) (x y : ℕ) (v : Bool) → transfer.kill x y ≡ false → Crosses transfer x y v v
@@ -100,7 +102,7 @@ module _ (frame : Frame) (is : IsFrame frame) where
   statement_low x y true edge = target_low x y edge
   statement_low x y false edge = source_low x y edge
 
-  pub site_low : (b : Bool) (x : ℕ) → x < point_count frame.links.now.program → call_site b x < 1048576
+  pub site_low : (b : Bool) (x : ℕ) → x < point_count frame.links.now.program → call_site b x < most_points Large
   site_low true x within = omega (arith, within, is.few)
   site_low false x within = omega (arith, within, is.few)
 

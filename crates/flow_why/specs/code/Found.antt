@@ -5,6 +5,8 @@ use Rattle.flow_why.specs.declared.claim.Claim.{Claim}
 use Rattle.flow_why.specs.declared.claim.Claim.TheVariants as claim
 use Rattle.flow_why.specs.declared.mark.Mark.{Mark}
 use Rattle.flow_why.specs.declared.mark.Reason.TheVariants.{Beginning}
+use Rattle.tac_program.specs.Limits.{most_points}
+use Rattle.tac_program.specs.declared.limits.Limits.TheVariants.{Large}
 
 -- so many points of which some are marked, the marks in their order, and how many of them were taken up
 pub record MarkList : Type 0 where
@@ -58,7 +60,7 @@ blank_places places = sum_by (λ place. if nat_eq place 0 then 1 else 0) places
 
 -- For each point one more than its place among the marks, and 0 where it is not marked. Each point is marked once at most.
 pub record IsIndexed (found : List Mark) (places : List ℕ) (taken : ℕ) : Type 0 where
-  pub few : length places ≤ 1048576
+  pub few : length places ≤ most_points Large
   pub within : (i : ℕ) → i < length found → point_at found i < length places
   pub placed : (i : ℕ) → i < length found → slice_index places (point_at found i) ≡ i + 1
   pub marked : (x i : ℕ) → x < length places → slice_index places x ≡ i + 1 → (i < length found) × (point_at found i ≡ x)

@@ -18,6 +18,8 @@ use Rattle.flow_why.specs.declared.frame.Asked.TheVariants.{Paths, Column, Point
 use Rattle.flow_why.specs.declared.frame.Frame.{Frame}
 use Rattle.flow_why.specs.declared.hop.Effect.{Effect}
 use Rattle.flow_why.specs.declared.hop.Effect.TheVariants.{Reaches, Preserves}
+use Rattle.tac_program.specs.Limits.{most_points}
+use Rattle.tac_program.specs.declared.limits.Limits.TheVariants.{Large}
 
 -- the transfer of what is asked: a bit that is always there, a column's bit, or a bit of one's own
 abbrev pub transfer_of_asked : Bool → Asked → Transfer
@@ -78,7 +80,7 @@ call_after backward x = after_site backward (call_site backward x)
 -- what a frame is: edges, what is asked of them, where their paths lead, and procedures that keep the bit
 pub record IsFrame (frame : Frame) : Type 0 where
   pub asked : IsAskedOf frame.links.now frame.asked
-  pub few : point_count frame.links.now.program ≤ 1048576
+  pub few : point_count frame.links.now.program ≤ most_points Large
   pub numbered : IsNumbered (directed_shape frame.links.now) frame.links.now.backward (point_count frame.links.now.program)
   pub base : (c : Claim) → (marks_of frame.base.now c).points ≡ point_count frame.links.now.program
   pub flags : (x : ℕ) → BaseHas frame.base.now claim.Holds x → HasFlag (directed_shape frame.links.now) x

@@ -14,6 +14,8 @@ use Rattle.flow_why.specs.code.Marked.{AreMarks, BaseHas, Question}
 use Rattle.flow_why.specs.code.Trails.{IsAskedFrame, base_question}
 use Rattle.flow_why.specs.code.Visits.{IsComplete}
 use Rattle.flow_why.specs.declared.frame.Frame.{Frame}
+use Rattle.tac_program.specs.Limits.{most_points}
+use Rattle.tac_program.specs.declared.limits.Limits.TheVariants.{Large}
 
 -- a program in a direction, and what was found of where its paths lead
 pub record KnownWays : Type 0 where
@@ -26,7 +28,7 @@ IsBare linked found = found ≡ nothing_found (point_count linked.program)
 
 -- there are few points, and the edges are numbered
 pub record IsSited (linked : LinkedProgram) : Type 0 where
-  pub few : point_count linked.program ≤ 1048576
+  pub few : point_count linked.program ≤ most_points Large
   pub numbered : IsNumbered (directed_shape linked) linked.backward (point_count linked.program)
 
 -- all is found of where paths lead

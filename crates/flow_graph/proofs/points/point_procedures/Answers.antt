@@ -4,11 +4,13 @@ use Rattle.flow_graph.specs.Points.{size_of}
 use Rattle.flow_graph.proofs.places.PlaceTables.{procedures_before, one_more}
 use Rattle.flow_graph.proofs.points.point_procedures.Goals as goal
 use Rattle.std.proofs.lemmas.List.Sums.{sum_by-take-le}
+use Rattle.tac_program.specs.Limits.{most_points}
+use Rattle.tac_program.specs.declared.limits.Limits.TheVariants.{Large}
 
 pub overflow_add-number : goal.overflow_add-number
 overflow_add-number c =
     let procs = c.procs-procs.result.now in
-    let few : sum_by size_of procs ≤ 1048576 = subst (λ ps. sum_by size_of ps ≤ 1048576) (sym c.loop-procedure.invariant.all) c.requires in
+    let few : sum_by size_of procs ≤ most_points Large = subst (λ ps. sum_by size_of ps ≤ most_points Large) (sym c.loop-procedure.invariant.all) c.requires in
     let before : c.loop-procedure.procedure-index ≤ sum_by size_of (take c.loop-procedure.procedure-index procs) =
     procedures_before procs c.loop-procedure.procedure-index (omega arith) in
     let within = sum_by-take-le size_of procs c.loop-procedure.procedure-index in

@@ -14,10 +14,12 @@ use Rattle.flow_graph.proofs.bits.Added.{added}
 use Rattle.flow_graph.proofs.lists.Ranges.{pushed_each}
 use Rattle.gen_kill.proofs.effects.effects.Goals as goal
 use Rattle.gen_kill.proofs.effects.effects.Goals.{in-Some, in-None}
+use Rattle.tac_program.specs.Limits.{most_variables}
+use Rattle.tac_program.specs.declared.limits.Limits.TheVariants.{Large}
 
 pub overflow_add-number : goal.overflow_add-number
 overflow_add-number c =
-    let few : length c.args.graph.now.variable_names ≤ 131072 = c.bits-number.ensures.few Live in
+    let few : length c.args.graph.now.variable_names ≤ most_variables Large = c.bits-number.ensures.few Live in
     let below : c.loop-point.number + 1 < 4294967296 = omega (arith, few, c.loop-point.invariant.few, c.points-point-end.ensures) in
     search rules
 

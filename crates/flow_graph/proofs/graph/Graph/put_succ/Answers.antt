@@ -7,6 +7,8 @@ use Rattle.flow_graph.specs.Points.{Place, point_count, procedure_at, statement_
 use Rattle.flow_graph.proofs.places.PointLemmas.{points_have_places}
 use Rattle.flow_graph.proofs.edges.SuccessorLemmas.{reads_sites}
 use Rattle.flow_graph.proofs.graph.Graph.put_succ.Goals as goal
+use Rattle.tac_program.specs.Limits.{most_points}
+use Rattle.tac_program.specs.declared.limits.Limits.TheVariants.{Large}
 
 pub index-requires : goal.index-requires
 index-requires g c =
@@ -26,7 +28,7 @@ put_returns-requires g c =
     ap (λ (at : Place). at.procedure) c.place-procedure.ensures in
     let sites = reads_sites c.self.inside.points c.self.inside.sites.items c.args.point c.place-procedure.result.procedure c.index.result.now
     c.as_slice.result.now c.self.invariant.4 below same c.index.ensures c.as_slice.ensures in
-    let few : point_count c.self.inside.points ≤ 1048576 = c.count.ensures.few in
+    let few : point_count c.self.inside.points ≤ most_points Large = c.count.ensures.few in
     λ k d inside. omega (arith, sites.few k d inside, few)
 
 pub returns-in-None : goal.returns-in-None

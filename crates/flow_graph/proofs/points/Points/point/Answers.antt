@@ -3,6 +3,8 @@ use Rattle.tac_program.specs.Programs.{Program}
 use Rattle.flow_graph.specs.Points.{point_count, end_place}
 use Rattle.flow_graph.proofs.places.PlaceTables.{point_fits}
 use Rattle.flow_graph.proofs.points.Points.point.Goals as goal
+use Rattle.tac_program.specs.Limits.{most_points}
+use Rattle.tac_program.specs.declared.limits.Limits.TheVariants.{Large}
 
 pub overflow_add-result : goal.overflow_add-result
 overflow_add-result c =
@@ -13,6 +15,6 @@ overflow_add-result c =
     let fits : c.index.result.now + c.args.place < point_count c.self.inside.program.now =
     point_fits c.self.inside.program.now c.self.inside.firsts.items c.args.procedure c.args.place c.index.result.now c.self.invariant.1 there within
     c.index.ensures in
-    let few : point_count c.self.inside.program.now ≤ 1048576 = c.self.invariant.0 in
+    let few : point_count c.self.inside.program.now ≤ most_points Large = c.self.invariant.0 in
     let below : c.index.result.now + c.args.place < 4294967296 = omega arith in
     search rules
