@@ -14,6 +14,8 @@ ghost use Rattle.flow_regions.specs.code.Regions.{ArePlaced, HoldsTouched, Stays
 ghost use Rattle.flow_bounds.specs.code.Shared.{IsAsking, IsShared};
 ghost use Rattle.flow_regions.specs.code.Touches.{AreMarked};
 ghost use Rattle.flow_regions.specs.code.Ways.{AreWays, IsTree};
+ghost use Rattle.tac_program.specs.Limits.{most_points};
+ghost use Rattle.tac_program.specs.declared.limits.Limits.TheVariants.{Large};
 
 use crate::OutOfMemory;
 use crate::answers::{Asking, Bounds, put_told};
@@ -162,7 +164,7 @@ fn points_of(
     requires places { length places.old ≡ point_count shared.links.now.program }
     ensures placed { IfOk result (λ points. ArePlaced (directed_shape shared.entry.links.now) inside.now (point_count shared.entry.links.now.program)
         (directed_shape shared.entry.links.now).procedures points.items places.new) }
-    ensures few { IfOk result (λ points. length points.items ≤ 1048576) }
+    ensures few { IfOk result (λ points. length points.items ≤ most_points Large) }
 {
     let mut points = Vec::new(alloc);
     put_points(
@@ -301,7 +303,7 @@ fn tell_inside(
         (point_count asking.shared.links.now.program) }
     requires placed { ArePlaced (directed_shape asking.shared.links.now) region.inside.now (point_count asking.shared.links.now.program)
         (directed_shape asking.shared.links.now).procedures region.points.now room.old.places.items }
-    requires few_points { length region.points.now ≤ 1048576 }
+    requires few_points { length region.points.now ≤ most_points Large }
     requires before { AreToldOf asking.shared.problem.now asking.asks.now told.old }
     ensures places { OnOk result (length room.new.places.items ≡ point_count asking.entry.shared.links.now.program) }
     ensures told { OnOk result (AreToldOf asking.entry.shared.problem.now asking.entry.asks.now told.new) }

@@ -11,6 +11,7 @@ use crate::answers::Answers;
 use crate::direction::DirectionSolvers;
 use crate::queried_job::{answers_of, queried_job};
 use crate::query::Query;
+use busy_bounds::BusyBounds;
 use flow_graph::{Analysis, Direction, Graph};
 use flow_team::{Half, side_by_side};
 use gk_solve::{Routes, Solver};
@@ -126,6 +127,15 @@ impl<'g, 'p> GraphSolvers<'g, 'p> {
         ensures { result.now ≡ direction_of (selection_of self.now analysis) }
     {
         self.direction(analysis.direction()).routes()
+    }
+
+    /// For each point some expressions among which all are that are very busy there. Fails only where memory runs out.
+    pub fn busy_bounds(&self, alloc: Global) -> Result<BusyBounds, OutOfMemory>
+        ensures { IfOk result (λ bounds. bounds ≡ self.now) }
+    {
+        let problem = self.solver(Analysis::Busy).problem();
+        let links = self.routes(Analysis::Busy).links();
+        BusyBounds::of(alloc, self.graph(), problem, links)
     }
 
     /// How many points there are.

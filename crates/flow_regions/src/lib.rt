@@ -13,6 +13,7 @@ mod touches;
 mod wanted;
 mod way;
 mod ways;
+mod whole;
 
 pub use effects::{Does, boundary_of, put_words};
 pub use effort::{allowance, is_too_much, making, solving};
@@ -27,3 +28,4 @@ pub use touches::touches_of;
 pub use wanted::Wanted;
 pub use way::{Branch, Hang, Hop, Way};
 pub use ways::Ways;
+pub use whole::all_ways;

@@ -1,11 +1,13 @@
 // The procedures that touch a group of columns.
-ghost use Rattle.std.specs.Prelude.{◌≡◌, ◌≢◌, ◌+◌, ◌^◌, ◌<◌, ◌≤◌, ◌++◌, ◌∷◌, [], ℕ, true, false, IfOk, OnOk, length, slice_index, slice_index_or};
+ghost use Rattle.std.specs.Prelude.{◌≡◌, ◌*◌, ◌≢◌, ◌+◌, ◌^◌, ◌<◌, ◌≤◌, ◌++◌, ◌∷◌, [], ℕ, true, false, IfOk, OnOk, length, slice_index, slice_index_or};
 ghost use Rattle.flow_graph.specs.Points.{point_count};
 ghost use Rattle.flow_links.specs.Shapes.{directed_shape};
 ghost use Rattle.gen_kill.specs.Selections.{column_count};
 ghost use Rattle.flow_regions.specs.code.Lists.{AreLists, AreLow, Has};
 ghost use Rattle.flow_regions.specs.code.Regions.{AreAllBelow, ArePlaced, ArePointsOf, HoldsTouched, IsIn, IsPlaced, StaysIn};
 ghost use Rattle.flow_regions.specs.code.Touches.{AreMarked, AreTouches};
+ghost use Rattle.tac_program.specs.Limits.{most_points};
+ghost use Rattle.tac_program.specs.declared.limits.Limits.TheVariants.{Large};
 
 use crate::OutOfMemory;
 use crate::lists::{Lists, lists_of};
@@ -102,7 +104,7 @@ fn put_procedure(
 ) -> Result<(), OutOfMemory>
     requires low { AreLow (point_count links.now.program) listed.now }
     requires inside { slice_index_or inside.now procedure false ≡ true }
-    requires many { length points.old.items + length listed.now ≤ 2 ^ 21 }
+    requires many { length points.old.items + length listed.now ≤ 2 * most_points Large }
     requires before { ArePlaced (directed_shape links.now) inside.now (point_count links.now.program) procedure points.old.items places.old }
     requires all { (x : ℕ) → x < point_count links.now.program → (directed_shape links.now).procedure_of x ≡ procedure
         → (j : ℕ) × (j < length listed.now) × (slice_index listed.now j ≡ x) }
@@ -213,7 +215,7 @@ pub fn put_points(
     requires places { length places.old ≡ point_count links.now.program }
     ensures placed { OnOk result (ArePlaced (directed_shape links.now) inside.now (point_count links.now.program) (directed_shape links.now).procedures
         points.new.items places.new) }
-    ensures few { OnOk result (length points.new.items ≤ 1048576) }
+    ensures few { OnOk result (length points.new.items ≤ most_points Large) }
 {
     // Its contract tells that there are few points.
     let _ = links.points();

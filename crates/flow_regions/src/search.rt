@@ -84,12 +84,11 @@ impl Found {
             return Ok(());
         }
         let calls = links.calls_from(point);
-        for call in calls {
-            if call.exit == exit {
-                self.add(call.after, point, exit)?;
-            }
+        if calls.is_empty() {
+            return Ok(());
         }
-        Ok(())
+        // All calls from a point return to one: to look for this one among many would be quadratic in them.
+        self.add(calls[0].after, point, exit)
     }
 
     // Finds what is behind the calls at a point whose callees' exits are found.

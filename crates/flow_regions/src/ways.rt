@@ -102,8 +102,8 @@ fn put_way(
     Ok(())
 }
 
-// Ways to the points that are wanted.
-fn list_of(
+/// Ways to the points that are wanted.
+pub(crate) fn list_of(
     alloc: Global,
     links: &Links,
     found: &Found,
@@ -174,8 +174,8 @@ fn put_branch(
     Ok(())
 }
 
-// The tree of the calls of procedures that are wanted, over these ways.
-fn tree_of(
+/// The tree of the calls of procedures that are wanted, over these ways.
+pub(crate) fn tree_of(
     alloc: Global,
     links: &Links,
     ways: &[Way],

@@ -4,7 +4,7 @@ ghost use Rattle.std.specs.Prelude.{◌≡◌, ℕ, suc, true, ◌+◌, ◌*◌,
 ghost use Rattle.flow_graph.specs.Universes.{bits};
 ghost use Rattle.flow_graph.specs.declared.analysis.Analysis.TheVariants.{Busy};
 ghost use Rattle.flow_queries.specs.Queries.{AreAnswers, IsWordAt};
-ghost use Rattle.report_answers.specs.code.Busy.{AreBusy, QueriesRound, Keeps, TellBusy, busy_query, busy_lists};
+ghost use Rattle.report_answers.specs.code.Busy.{AreAsked, AreBusy, AreRoundQueries, Keeps, TellBusy, busy_query, busy_lists};
 ghost use Rattle.report_answers.specs.code.Chosen.{wants_word};
 ghost use Rattle.report_answers.specs.declared.chosen_bits.ChosenBits.{ChosenBits as Choice};
 ghost use Rattle.tac_program.specs.Programs.{Program};
@@ -12,7 +12,7 @@ ghost use Rattle.tac_program.specs.Programs.{Program};
 use crate::OutOfMemory;
 use crate::chosen_bits::ChosenBits;
 use flow_graph::Graph;
-use flow_queries::{Answers, Query};
+use flow_queries::Answers;
 use std::alloc::Global;
 
 /// A word of a test's set that has a bit.
@@ -26,17 +26,15 @@ pub struct BusyWord {
     pub mask: u64,
 }
 
-/// A round of queries: the words from one on, so many of each test's set, behind so many other queries.
+/// A round of queries: for the tests' sets' words from one on and before another.
 #[derive(Clone, Copy)]
 pub(crate) struct Round {
     /// Which bits are asked.
     pub(crate) chosen: ChosenBits,
-    /// How many other queries stand before them.
-    pub(crate) before: u32,
     /// The first word.
     pub(crate) from: u32,
-    /// How many words.
-    pub(crate) width: u32,
+    /// The one behind the last.
+    pub(crate) until: u32,
 }
 
 /// The words with a bit of the tests' sets of very busy expressions, in a list for each test: most words of most sets have none.
@@ -57,19 +55,6 @@ impl Drop for BusyWords {
     }
 }
 
-// How many answers from one on have a bit.
-fn with_bits(answers: &Answers, from: u32) -> usize
-    requires { length answers.now.words ≡ length answers.now.queries }
-{
-    let mut count = 0usize;
-    for number in from as usize..answers.count() {
-        if answers.word(number) != 0 {
-            count = count.saturating_add(1);
-        }
-    }
-    count
-}
-
 impl BusyWords {
     /// So many empty lists.
     pub(crate) fn empty(alloc: Global, tests: usize) -> Result<BusyWords, OutOfMemory>
@@ -83,11 +68,11 @@ impl BusyWords {
     }
 
     // Puts a word before those of a test, unless it has no bit.
-    fn put(&mut self, test: u32, query: Query, mask: u64) -> Result<(), OutOfMemory>
+    fn put(&mut self, test: u32, word: u32, mask: u64) -> Result<(), OutOfMemory>
         requires { test < length self.old.firsts.items }
         ensures keeps { IfOk result (λ _. Keeps (busy_lists self.old) (busy_lists self.new) test) }
-        ensures answered { IfOk result (λ _. (chosen : Choice) (program : Program) (point word : ℕ) → query ≡ busy_query point word
-            → IsWordAt program query mask → 64 * word < bits program Busy → wants_word chosen Busy word ≡ true
+        ensures answered { IfOk result (λ _. (chosen : Choice) (program : Program) (point : ℕ)
+            → IsWordAt program (busy_query point word) mask → 64 * word < bits program Busy → wants_word chosen Busy word ≡ true
             → AreBusy chosen program self.old.words.items point (suc word) (slice_index self.old.firsts.items test)
             → AreBusy chosen program self.new.words.items point word (slice_index self.new.firsts.items test)) }
     {
@@ -99,41 +84,35 @@ impl BusyWords {
             return Err(OutOfMemory);
         }
         let next = self.firsts[test as usize];
-        self.words.push(BusyWord {
-            word: query.word,
-            next,
-            mask,
-        })?;
+        self.words.push(BusyWord { word, next, mask })?;
         self.firsts[test as usize] = number as u32 + 1;
         Ok(())
     }
 
-    // Puts the words of a test that a round asked for, the last one first.
+    // Puts the words of a test that a round asked for: its queries stand from one place up to another, the last word first.
     fn put_test(
         &mut self,
         graph: &Graph<'_>,
         answers: &Answers,
-        tests: &[u32],
+        point: u32,
         test: u32,
+        places: (u32, u32),
         round: Round,
     ) -> Result<(), OutOfMemory>
-        requires firsts { length self.old.firsts.items ≡ length tests.now }
-        requires test { test < length tests.now }
+        requires test { test < length self.old.firsts.items }
         requires answers { AreAnswers graph.now answers.now }
-        requires queries { QueriesRound tests.now round.from round.width round.before answers.now.queries }
-        requires within { 64 * (round.from + round.width) < bits graph.now Busy + 64 }
-        requires wanted { (word : ℕ) → round.from ≤ word → word < round.from + round.width → wants_word round.chosen Busy word ≡ true }
-        requires few { round.before + length tests.now * round.width < 2 ^ 32 }
-        requires answered { AreBusy round.chosen graph.now self.old.words.items (slice_index tests.now test) (round.from + round.width)
-            (slice_index self.old.firsts.items test) }
+        requires asked { AreAsked graph.now answers.now.queries point round.from round.until places.0 places.1 }
+        requires within { 64 * round.until < bits graph.now Busy + 64 }
+        requires wanted { (word : ℕ) → round.from ≤ word → word < round.until → wants_word round.chosen Busy word ≡ true }
+        requires ordered { round.from ≤ round.until }
+        requires answered { AreBusy round.chosen graph.now self.old.words.items point round.until (slice_index self.old.firsts.items test) }
         ensures keeps { IfOk result (λ _. Keeps (busy_lists self.old) (busy_lists self.new) test) }
         ensures answered { IfOk result
-            (λ _. AreBusy round.chosen graph.now self.new.words.items (slice_index tests.now test) round.from (slice_index self.new.firsts.items test)) }
+            (λ _. AreBusy round.chosen graph.now self.new.words.items point round.from (slice_index self.new.firsts.items test)) }
     {
-        let first = round.before + test * round.width;
-        for behind in 0..round.width {
-            let number = (first + (round.width - 1 - behind)) as usize;
-            self.put(test, answers.query(number), answers.word(number))?;
+        for place in places.0..places.1 {
+            let query = answers.query(place as usize);
+            self.put(test, query.word, answers.word(place as usize))?;
         }
         Ok(())
     }
@@ -144,22 +123,23 @@ impl BusyWords {
         graph: &Graph<'_>,
         answers: &Answers,
         tests: &[u32],
+        starts: &[u32],
         round: Round,
     ) -> Result<(), OutOfMemory>
         requires tests { length tests.now < 2 ^ 32 }
         requires firsts { length self.old.firsts.items ≡ length tests.now }
         requires answers { AreAnswers graph.now answers.now }
-        requires queries { QueriesRound tests.now round.from round.width round.before answers.now.queries }
-        requires within { 64 * (round.from + round.width) < bits graph.now Busy + 64 }
-        requires wanted { (word : ℕ) → round.from ≤ word → word < round.from + round.width → wants_word round.chosen Busy word ≡ true }
-        requires few { round.before + length tests.now * round.width < 2 ^ 32 }
-        requires answered { TellBusy round.chosen graph.now tests.now (busy_lists self.old) (round.from + round.width) }
+        requires asked { AreRoundQueries graph.now tests.now round.from round.until starts.now answers.now.queries }
+        requires within { 64 * round.until < bits graph.now Busy + 64 }
+        requires wanted { (word : ℕ) → round.from ≤ word → word < round.until → wants_word round.chosen Busy word ≡ true }
+        requires ordered { round.from ≤ round.until }
+        requires answered { TellBusy round.chosen graph.now tests.now (busy_lists self.old) round.until }
         ensures firsts { IfOk result (λ _. length self.new.firsts.items ≡ length tests.now) }
         ensures answered { IfOk result (λ _. TellBusy round.chosen graph.now tests.now (busy_lists self.new) round.from) }
     {
-        self.words.reserve(with_bits(answers, round.before))?;
         for test in 0..tests.len() {
-            self.put_test(graph, answers, tests, test as u32, round)?;
+            let places = (starts[test], starts[test + 1]);
+            self.put_test(graph, answers, tests[test], test as u32, places, round)?;
         }
         Ok(())
     }

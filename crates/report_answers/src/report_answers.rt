@@ -79,10 +79,15 @@ impl ReportAnswers {
         } = known;
         let BusyRounds {
             tests,
+            bounds: _,
             busy,
             until: _,
             first: _,
             width: _,
+            least: _,
+            share: _,
+            from: _,
+            starts: _,
             chosen,
         } = rounds;
         ReportAnswers {
@@ -99,13 +104,14 @@ impl ReportAnswers {
         team: &Team<'_, R, G>,
         alloc: Global,
         graph: &Graph<'_>,
+        solvers: GraphSolvers<'_, '_>,
         queries: Vec<Query>,
         first: FirstRound,
     ) -> Result<ReportAnswers, OutOfMemory>
-        requires { IsFirstRoundOf first.rounds.chosen graph.now queries.items first }
+        requires solvers { solvers ≡ graph.now }
+        requires first { IsFirstRoundOf first.rounds.chosen graph.now queries.items first }
         ensures { IfOk result (TellChosen first.rounds.chosen graph.now) }
     {
-        let solvers = GraphSolvers::of(team, alloc, graph)?;
         let (answers, mut solvers) = solvers.answer(team, alloc, queries)?;
         let mut rounds = first.put_chosen(alloc, graph, answers)?;
         while let Some(queries) = rounds.next_chosen(alloc, graph)? {
@@ -139,7 +145,9 @@ impl ReportAnswers {
         ensures { IfOk result (TellChosen chosen graph.now) }
     {
         let cut = width_for(team);
-        let (queries, first) = FirstRound::of_chosen(alloc, graph, chosen, team.workers)?;
+        let solvers = GraphSolvers::of(team, alloc, graph)?;
+        let bounds = Some(solvers.busy_bounds(alloc)?);
+        let (queries, first) = FirstRound::of_chosen(alloc, graph, chosen, bounds, team.workers)?;
         let plan = SlicePlan::of(graph.points(), cut);
         let gate = JoinedGate::new(team.gate, first.slices_behind(graph, plan));
         let joined = Team {
@@ -148,7 +156,7 @@ impl ReportAnswers {
             workers: team.workers,
             cut,
         };
-        let answers = ReportAnswers::by_team(&joined, alloc, graph, queries, first);
+        let answers = ReportAnswers::by_team(&joined, alloc, graph, solvers, queries, first);
         gate.end();
         answers
     }
@@ -168,8 +176,9 @@ impl ReportAnswers {
     ) -> Result<ReportAnswers, OutOfMemory>
         ensures { IfOk result (TellChosen chosen graph.now) }
     {
-        let (queries, first) = FirstRound::of_chosen(alloc, graph, chosen, 1)?;
         let solvers = GraphSolvers::of_here(alloc, graph)?;
+        let bounds = Some(solvers.busy_bounds(alloc)?);
+        let (queries, first) = FirstRound::of_chosen(alloc, graph, chosen, bounds, 1)?;
         let (answers, mut solvers) = solvers.answer_here(alloc, queries)?;
         let mut rounds = first.put_chosen(alloc, graph, answers)?;
         while let Some(queries) = rounds.next_chosen(alloc, graph)? {

@@ -1,12 +1,13 @@
 // What a report asks of the four analyses.
 
-ghost use Rattle.std.specs.Prelude.{◌≡◌, ◌+◌, ◌/◌, ◌%◌, ◌^◌, ◌<◌, ◌≤◌, [], ◌∷◌, ◌++◌, Some, length, IfOk};
+ghost use Rattle.std.specs.Prelude.{◌≡◌, ◌⊎◌, true, None, ◌+◌, ◌/◌, ◌%◌, ◌^◌, ◌<◌, ◌≤◌, [], ◌∷◌, ◌++◌, Some, length, IfOk};
 ghost use Rattle.flow_graph.specs.Points.{kind_at, point_count};
 ghost use Rattle.tac_program.specs.Sound.{IsSound};
 ghost use Rattle.tac_program.specs.declared.program.StmtKind.{StmtKind as KindValue};
 ghost use Rattle.report_answers.specs.code.Querying.{Queries, QueriesAssigned, QueriesEvaluated, QueriesReads, IsAmongTests, PutsPoint};
 ghost use Rattle.report_answers.specs.code.Chosen.{wanted_query};
 ghost use Rattle.report_answers.specs.code.Reported.{AreQueriedAt, AreReportQueries};
+ghost use Rattle.report_answers.specs.Statements.{assigned as assigned_by, is_test as is_test_of};
 
 use crate::OutOfMemory;
 use crate::chosen_bits::ChosenBits;
@@ -125,6 +126,7 @@ fn query_assigned(
     requires kind { kind_at graph.now point ≡ Some kind.now }
     ensures queries { IfOk result (λ _. Queries chosen graph.now queries.old.items queries.new.items 1) }
     ensures queried { IfOk result (λ _. QueriesAssigned chosen queries.new.items (length queries.old.items) point kind.now) }
+    ensures none { assigned_by kind.now ≡ None → IfOk result (λ _. queries.new.items ≡ queries.old.items) }
 {
     // Its contract tells that there are few points.
     let _ = graph.points();
@@ -141,6 +143,7 @@ fn query_assigned(
 fn put_test(tests: &mut Vec<u32>, point: u32, kind: &StmtKind) -> Result<(), OutOfMemory>
     ensures queried { IfOk result (λ _. IsAmongTests tests.new.items (length tests.old.items) point kind.now) }
     ensures more { IfOk result (λ _. PutsPoint tests.old.items tests.new.items point) }
+    ensures none { IfOk result (λ _. (is_test_of kind.now ≡ true) ⊎ (tests.new.items ≡ tests.old.items)) }
 {
     if is_test(kind) {
         tests.push(point)?;
@@ -164,6 +167,8 @@ fn query_kind(
     requires tests { length tests.old.items ≤ point }
     ensures queries { IfOk result (λ _. Queries chosen graph.now queries.old.items queries.new.items 4) }
     ensures tests { IfOk result (λ _. PutsPoint tests.old.items tests.new.items point) }
+    ensures both { IfOk result (λ _. length queries.new.items + length tests.new.items ≤ length queries.old.items + length tests.old.items + 4) }
+    ensures behind { IfOk result (λ _. point + 1 < point_count graph.now) }
     ensures queried { IfOk result (λ here. AreQueriedAt chosen graph.now queries.new.items tests.new.items here point kind.now) }
 {
     let reads = queries.len() as u32;
@@ -195,6 +200,9 @@ fn query_point(
     requires tests { length tests.old.items ≤ point }
     ensures queries { IfOk result (λ _. Queries chosen graph.now queries.old.items queries.new.items 4) }
     ensures tests { IfOk result (λ _. PutsPoint tests.old.items tests.new.items point) }
+    ensures both { IfOk result (λ _. length queries.new.items + length tests.new.items ≤ length queries.old.items + length tests.old.items + 4) }
+    ensures last { IfOk result (λ _. (length queries.new.items + length tests.new.items ≤ length queries.old.items + length tests.old.items)
+        ⊎ (point + 1 < point_count graph.now)) }
     ensures queried { IfOk result
         (λ here. (kind : KindValue) → kind_at graph.now point ≡ Some kind
         → AreQueriedAt chosen graph.now queries.new.items tests.new.items here point kind) }

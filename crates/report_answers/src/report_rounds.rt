@@ -1,6 +1,6 @@
 // What a report asks, round by round.
 
-ghost use Rattle.std.specs.Prelude.{◌≡◌, ◌<◌, ◌≤◌, IfOk, MatchOption};
+ghost use Rattle.std.specs.Prelude.{◌≡◌, ◌<◌, ◌≤◌, IfOk, IfSome, MatchOption};
 ghost use Rattle.flow_queries.specs.Queries.{AreAnswers};
 ghost use Rattle.report_answers.specs.code.Reported.{IsFirstRound, IsFirstRoundOf, IsNextRound, IsNextRoundOf, TellChosen, TellReport, TellRest};
 ghost use Rattle.report_answers.specs.code.Reported.{TellRestOf, words_left};
@@ -10,6 +10,7 @@ use crate::busy_rounds::BusyRounds;
 use crate::chosen_bits::ChosenBits;
 use crate::report_answers::ReportAnswers;
 use crate::report_queries::{PointQueries, ReportQueries, report_queries};
+use busy_bounds::BusyBounds;
 use flow_graph::Graph;
 use flow_queries::{Answers, Query};
 use flow_team::SlicePlan;
@@ -35,17 +36,20 @@ impl FirstRound {
         requires { workers ≤ 64 }
         ensures { IfOk result (λ r. IsFirstRound graph.now r.0.items r.1) }
     {
-        FirstRound::of_chosen(alloc, graph, ChosenBits::All, workers)
+        FirstRound::of_chosen(alloc, graph, ChosenBits::All, None, workers)
     }
 
-    /// What a report asks of a graph first, as far as it is wanted, for so many workers.
+    /// What a report asks of a graph first, as far as it is wanted and bounds leave it open, for so many workers. The condition: the bounds are of the
+    /// graph.
     pub(crate) fn of_chosen(
         alloc: Global,
         graph: &Graph<'_>,
         chosen: ChosenBits,
+        bounds: Option<BusyBounds>,
         workers: u32,
     ) -> Result<(Vec<Query>, FirstRound), OutOfMemory>
-        requires { workers ≤ 64 }
+        requires workers { workers ≤ 64 }
+        requires bounds { IfSome bounds (λ b. b ≡ graph.now) }
         ensures { IfOk result (λ r. IsFirstRoundOf chosen graph.now r.0.items r.1) }
     {
         // Its contract tells that there are few points.
@@ -56,7 +60,7 @@ impl FirstRound {
             tests,
         } = report_queries(alloc, graph, chosen)?;
         let before = queries.len() as u32;
-        let rounds = BusyRounds::of(alloc, graph, chosen, tests, workers)?;
+        let mut rounds = BusyRounds::of(alloc, graph, chosen, tests, bounds, before, workers)?;
         rounds.query(graph, &mut queries)?;
         let first = FirstRound {
             before,
@@ -67,10 +71,7 @@ impl FirstRound {
     }
 
     /// How many slices of a plan the later rounds have.
-    pub(crate) fn slices_behind(&self, graph: &Graph<'_>, plan: SlicePlan) -> u32
-        requires some { 0 < self.now.rounds.width }
-        requires ordered { self.now.rounds.first ≤ self.now.rounds.until }
-    {
+    pub(crate) fn slices_behind(&self, graph: &Graph<'_>, plan: SlicePlan) -> u32 {
         self.rounds.slices_behind(graph, plan)
     }
 
@@ -105,7 +106,7 @@ impl FirstRound {
             mut rounds,
         } = self;
         let mut answers = answers;
-        rounds.put(graph, &answers, before)?;
+        rounds.put(graph, &answers)?;
         answers.truncate(alloc, before as usize)?;
         Ok(LaterRounds {
             answers,
@@ -126,22 +127,30 @@ pub struct LaterRounds {
 impl LaterRounds {
     /// The queries of the next round; None where no round is left. The condition: they are rounds of this graph. Fails only where memory runs
     /// out.
-    pub fn next(&self, alloc: Global, graph: &Graph<'_>) -> Result<Option<Vec<Query>>, OutOfMemory>
-        requires { TellRest graph.now self.now }
-        ensures { IfOk result (λ next. MatchOption next (words_left self.now ≡ 0) (λ queries. IsNextRound graph.now self.now queries.items)) }
+    pub fn next(
+        &mut self,
+        alloc: Global,
+        graph: &Graph<'_>,
+    ) -> Result<Option<Vec<Query>>, OutOfMemory>
+        requires { TellRest graph.now self.old }
+        ensures rest { IfOk result (λ _. TellRest graph.now self.new) }
+        ensures same { IfOk result (λ _. words_left self.new ≡ words_left self.old) }
+        ensures next { IfOk result (λ next. MatchOption next (words_left self.new ≡ 0) (λ queries. IsNextRound graph.now self.new queries.items)) }
     {
         self.next_chosen(alloc, graph)
     }
 
     /// The queries of the next round of what is wanted; None where no round is left.
     pub(crate) fn next_chosen(
-        &self,
+        &mut self,
         alloc: Global,
         graph: &Graph<'_>,
     ) -> Result<Option<Vec<Query>>, OutOfMemory>
-        requires { TellRestOf self.now.rounds.chosen graph.now self.now }
-        ensures { IfOk result (λ next. MatchOption next (words_left self.now ≡ 0)
-            (λ queries. IsNextRoundOf self.now.rounds.chosen graph.now self.now queries.items)) }
+        requires { TellRestOf self.old.rounds.chosen graph.now self.old }
+        ensures rest { IfOk result (λ _. TellRestOf self.old.rounds.chosen graph.now self.new) }
+        ensures same { IfOk result (λ _. words_left self.new ≡ words_left self.old) }
+        ensures next { IfOk result (λ next. MatchOption next (words_left self.new ≡ 0)
+            (λ queries. IsNextRoundOf self.old.rounds.chosen graph.now self.new queries.items)) }
     {
         if self.rounds.until <= self.rounds.first {
             return Ok(None);
@@ -174,7 +183,7 @@ impl LaterRounds {
         ensures rest { IfOk result (λ _. TellRestOf self.old.rounds.chosen graph.now self.new) }
         ensures less { IfOk result (λ _. words_left self.new < words_left self.old) }
     {
-        self.rounds.put(graph, answers, 0)?;
+        self.rounds.put(graph, answers)?;
         Ok(())
     }
 

@@ -11,12 +11,14 @@ use Rattle.flow_bounds.specs.Clauses.{InnerClause, IsPointInside, IsTaken, Outer
 use Rattle.flow_bounds.specs.Rules.{IsRuleAt, IsRuleOf}
 use Rattle.flow_bounds.specs.declared.frame.Frame.{Frame}
 use Rattle.flow_bounds.specs.declared.rule.Rule.{Rule}
+use Rattle.tac_program.specs.Limits.{most_points, most_procedures}
+use Rattle.tac_program.specs.declared.limits.Limits.TheVariants.{Large}
 
 -- Each point of a procedure inside has its place, and each table a word for each place, point or procedure.
 pub record IsFrame (frame : Frame) : Type 0 where
   pub numbered : IsNumbered (shape_in frame) frame.links.now.backward (point_count frame.links.now.program)
-  pub few_points : length frame.points.now ≤ 1048576
-  pub few_procedures : (shape_in frame).procedures ≤ 16384
+  pub few_points : length frame.points.now ≤ most_points Large
+  pub few_procedures : (shape_in frame).procedures ≤ most_procedures Large
   pub inside : length frame.inside.now ≡ (shape_in frame).procedures
   pub places : length frame.places.now ≡ point_count frame.links.now.program
   pub placed : (x : ℕ) → x < point_count frame.links.now.program → IsPointInside frame x

@@ -15,6 +15,8 @@ use Rattle.flow_bounds.specs.declared.frame.Frame.{Frame}
 use Rattle.flow_bounds.specs.declared.group.Group.{Group}
 use Rattle.flow_bounds.specs.declared.group.Known.{Known}
 use Rattle.flow_bounds.specs.declared.group.Tables.{Tables}
+use Rattle.tac_program.specs.Limits.{most_points}
+use Rattle.tac_program.specs.declared.limits.Limits.TheVariants.{Large}
 
 -- Of each column at its bit a frame bounds the transfer from above, or from below.
 pub record AreAbove (selection : Selection) (columns : List ℕ) (frame : Frame) : Type 0 where
@@ -32,7 +34,7 @@ pub record IsGroup (selection : Selection) (linked : LinkedProgram) (group : Gro
   pub inside : length group.inside.now ≡ (directed_shape linked).procedures
   pub placed : ArePlaced (directed_shape linked) group.inside.now (point_count linked.program) (directed_shape linked).procedures
       group.points.now group.places.now
-  pub few_points : length group.points.now ≤ 1048576
+  pub few_points : length group.points.now ≤ most_points Large
   pub touched : HoldsTouched selection (directed_shape linked) group.columns.now group.inside.now (point_count linked.program)
   pub gens_count : length group.gens.now ≡ length group.points.now
   pub gens : AreTold selection Generates group.columns.now (length group.columns.now) group.places.now (length group.points.now) group.gens.now

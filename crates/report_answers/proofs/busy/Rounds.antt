@@ -1,34 +1,16 @@
 -- Rounds of queries for words of tests' sets.
-use Rattle.std.proofs.Common.{◌≡◌, ◌∙◌, ℕ, zero, suc, true, ◌+◌, ◌*◌, ◌<◌, ◌≤◌, List, [], ◌∷◌, ◌++◌, None, Some, length, slice_get, slice_index, slice_index_or}
-use Rattle.std.proofs.Common.{slice_set, take, refl, sym, ap, ap₂, subst, arith}
+use Rattle.std.proofs.Common.{◌≡◌, ◌∙◌, ℕ, zero, suc, ◌<◌, ◌≤◌, List, [], ◌∷◌, ◌++◌, None, Some, length, slice_get, slice_index, slice_index_or}
+use Rattle.std.proofs.Common.{slice_set, take, refl, sym, ap, subst, arith}
 use Rattle.std.proofs.lemmas.List.{get_or-set_other, get_or-take, length-take-le}
-use Rattle.std.proofs.lemmas.Nat.{div-mul-add, mod-mul-add}
 use Rattle.std.proofs.lemmas.Option.{get_or_from_slice_get, slice_get-get_or, slice_get_within}
-use Rattle.bit_rows.proofs.words.WordBits.{has_bit-max}
-use Rattle.bit_rows.specs.Words.{has_bit}
-use Rattle.flow_queries.specs.Queries.{AreQueriesOf, IsAnswerTo, IsWordAt}
+use Rattle.flow_queries.specs.Queries.{AreQueriesOf}
 use Rattle.flow_queries.specs.declared.query.Query.{Query}
-use Rattle.report_answers.specs.code.Busy.{AreBusy, QueriesRound, BusyLists, Keeps, busy_query, round_query}
+use Rattle.report_answers.specs.code.Busy.{AreBusy, BusyLists, Keeps}
 use Rattle.report_answers.specs.code.Chosen.{AsksOnly}
 use Rattle.report_answers.specs.declared.busy_words.BusyWord.{BusyWord}
 use Rattle.report_answers.specs.declared.chosen_bits.ChosenBits.{ChosenBits}
 use Rattle.report_answers.proofs.busy.Lists.{get_before, still}
 use Rattle.tac_program.specs.Programs.{Program}
-
--- what the query of a place in a test's row asks for
-pub round_place : (points : List ℕ) (from width test k : ℕ) → k < width
-    → round_query points from width (test * width + k) ≡ busy_query (slice_index points test) (from + k)
-round_place points from width test k inside =
-    ap₂ (λ (p w : ℕ). busy_query (slice_index points p) (from + w)) (div-mul-add test width k inside) (mod-mul-add test width k inside)
-
--- the answer to such a query is the whole word
-pub whole_word : (program : Program) (query : Query) (point word value : ℕ) → query ≡ busy_query point word → IsAnswerTo program query value
-    → IsWordAt program query value
-whole_word program query point word value is answer k small =
-    let all : has_bit query.bits k ≡ true = ap (λ (a : Query). has_bit a.bits k) is ∙ has_bit-max k small in (
-      (λ has. let found = (answer k small).0 has in (found.1, found.2)),
-      (λ found. (answer k small).1 (all, found.0, found.1)),
-    )
 
 pub keeps_all : (lists : BusyLists) (one : ℕ) → Keeps lists lists one
 keeps_all lists one = record { count = refl; firsts = λ i other. refl; words = λ place busy is. is }
@@ -95,10 +77,3 @@ pub none_asked : (chosen : ChosenBits) (queries : List Query) → queries ≡ []
 none_asked chosen queries none q query there =
     let both : None ≡ Some query = ap (λ (all : List Query). slice_get all q) (sym none) ∙ there in
     absurd (cc both)
-
--- a round that is asked alone
-pub alone : (points : List ℕ) (from width : ℕ) (none queries answered : List Query) → none ≡ [] → answered ≡ queries
-    → QueriesRound points from width (length none) queries → QueriesRound points from width 0 answered
-alone points from width none queries answered empty same round number below =
-    let place : 0 + number ≡ length none + number = let count : length none ≡ 0 = ap length empty in omega (arith, count) in
-    ap (λ (all : List Query). slice_get all (0 + number)) same ∙ ap (slice_get queries) place ∙ round number below

@@ -21,7 +21,7 @@ use Rattle.report_answers.specs.declared.chosen_bits.ChosenBits.{ChosenBits}
 use Rattle.report_answers.specs.declared.report_queries.PointQueries.{PointQueries}
 use Rattle.report_answers.proofs.queries.Statements.{same_read, variables_are_there, variables_have_dummies}
 
-get_before : (old more : List Query) (q : ℕ) (query : Query) → slice_get old q ≡ Some query → slice_get (old ++ more) q ≡ Some query
+pub get_before : (old more : List Query) (q : ℕ) (query : Query) → slice_get old q ≡ Some query → slice_get (old ++ more) q ≡ Some query
 get_before [] more q query is = absurd (cc is)
 get_before (one ∷ old) more zero query is = is
 get_before (one ∷ old) more (suc q) query is = get_before old more q query is

@@ -21,7 +21,7 @@ use Rattle.flow_graph.specs.declared.expression.Expr.{Expr}
 use Rattle.flow_graph.proofs.edges.EdgeLemmas.{next_in}
 use Rattle.flow_graph.proofs.places.Standing.{Stands, stands}
 use Rattle.report_answers.specs.code.Operands.{AreRead}
-use Rattle.report_answers.specs.Statements.{assigned}
+use Rattle.report_answers.specs.Statements.{assigned, is_test}
 use Rattle.report_answers.proofs.queries.Rising.{rises, filter_rising}
 
 -- each variable has a definition, its dummy, of the variable's number
@@ -127,3 +127,18 @@ assigned_there program point x kind.Skip stand sets = absurd (cc sets)
 -- the point after a statement is a point
 pub next_below : (program : Program) (point : ℕ) (k : StmtKind) → Stands program point k → point + 1 < point_count program
 next_below program point k stand = omega (arith, (next_in program point k stand).below)
+
+-- a test assigns nothing
+pub tests_assign_nothing : (k : StmtKind) → is_test k ≡ true → assigned k ≡ None
+tests_assign_nothing (kind.Copy x y) is = absurd (cc is)
+tests_assign_nothing (kind.Unary x o y) is = absurd (cc is)
+tests_assign_nothing (kind.Binary o x y z) is = absurd (cc is)
+tests_assign_nothing (kind.Goto l) is = refl
+tests_assign_nothing (kind.If y l) is = refl
+tests_assign_nothing (kind.IfFalse y l) is = refl
+tests_assign_nothing (kind.IfCompare o l y z) is = refl
+tests_assign_nothing (kind.Call cs) is = refl
+tests_assign_nothing kind.Return is = refl
+tests_assign_nothing (kind.Read x) is = refl
+tests_assign_nothing (kind.Print y) is = refl
+tests_assign_nothing kind.Skip is = refl

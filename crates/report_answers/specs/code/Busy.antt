@@ -1,5 +1,6 @@
 -- The words with a bit of tests' sets of very busy expressions.
-use Rattle.std.specs.Prelude.{◌≡◌, ℕ, zero, true, false, max, suc, ◌+◌, ◌-◌, ◌*◌, ◌/◌, ◌%◌, ◌^◌, ◌<◌, ◌≤◌, if◌then◌else◌, List, Some, length, nat_eq, slice_get}
+use Rattle.std.specs.Prelude.{◌≡◌, ℕ, zero, true, false, suc, ◌+◌, ◌-◌, ◌*◌, ◌^◌, ◌<◌, ◌≤◌, if◌then◌else◌, IfSome, List, Some, length, nat_eq, slice_get}
+use Rattle.busy_bounds.specs.BusyBounds.{HasAllBusy, NoneVeryBusy}
 use Rattle.std.specs.Prelude.{slice_index, slice_index_or}
 use Rattle.flow_graph.specs.Analyses.{IsInTable}
 use Rattle.flow_graph.specs.Points.{point_count}
@@ -10,6 +11,7 @@ use Rattle.flow_queries.specs.declared.query.Query.{Query}
 use Rattle.report_answers.specs.code.Chosen.{wants, wants_word}
 use Rattle.report_answers.specs.declared.chosen_bits.ChosenBits.{ChosenBits}
 use Rattle.report_answers.specs.declared.busy_rounds.BusyRounds.{BusyRounds}
+use Rattle.report_answers.specs.declared.busy_rounds.RoundWords.{RoundWords}
 use Rattle.report_answers.specs.declared.busy_words.BusyWord.{BusyWord}
 use Rattle.report_answers.specs.declared.busy_words.BusyWords.{BusyWords}
 use Rattle.tac_program.specs.Programs.{Program}
@@ -57,14 +59,19 @@ busy_mask words (suc most) zero word = 0
 busy_mask words (suc most) (suc place) word =
     let busy = slice_index_or words place no_word in if nat_eq busy.word word then busy.mask else busy_mask words most busy.next word
 
--- the query of a number in a round that asks for so many words from one on, point by point
-abbrev pub round_query : List ℕ → ℕ → ℕ → ℕ → Query
-round_query points from width number = busy_query (slice_index points (number / width)) (from + number % width)
+-- The query asks for all expressions of its word that are very busy at the point.
+pub record AsksBusy (program : Program) (point : ℕ) (query : Query) : Type 0 where
+  pub goes : query.analysis ≡ Busy
+  pub at : query.point ≡ point
+  pub all : HasAllBusy program point query.word query.bits
 
--- The queries of the round stand behind so many others.
-abbrev pub QueriesRound : List ℕ → ℕ → ℕ → ℕ → List Query → Type 0
-QueriesRound points from width before queries =
-    (number : ℕ) → number < length points * width → slice_get queries (before + number) ≡ Some (round_query points from width number)
+-- From one place up to another stand queries for a point's words from one on and before another, the last one first. In no word between is an
+-- expression very busy.
+pub data AreAsked (program : Program) (queries : List Query) (point from : ℕ) : ℕ → ℕ → ℕ → Type 0 where
+  asked_all : (until q : ℕ) → NoneVeryBusy program point from until → AreAsked program queries point from until q q
+  asks : (until q r : ℕ) (query : Query) → slice_get queries q ≡ Some query → AsksBusy program point query → from ≤ query.word → query.word < until
+      → NoneVeryBusy program point (query.word + 1) until → AreAsked program queries point from query.word (q + 1) r
+      → AreAsked program queries point from until q r
 
 -- But for one, each list is as it was.
 pub record Keeps (old new : BusyLists) (one : ℕ) : Type 0 where
@@ -76,24 +83,51 @@ pub record Keeps (old new : BusyLists) (one : ℕ) : Type 0 where
 abbrev pub busy_lists : BusyWords → BusyLists
 busy_lists busy = record { firsts = busy.firsts.items; words = busy.words.items }
 
--- where the round that ends before a word begins: none begins before the first word that is wanted
-abbrev pub round_start : (first width until : ℕ) → ℕ
-round_start first width until = max first ((until - 1) / width * width)
-
 -- Each is a point of the program.
 abbrev pub ArePoints : Program → List ℕ → Type 0
 ArePoints program points = (i point : ℕ) → slice_get points i ≡ Some point → point < point_count program
 
--- The words from one on are told, and before it those from the first on are wanted; a round asks for so many at most of each of the points' sets.
+-- The words from one on are told, and before it those from the first on are wanted; a round asks for so many of each of the points' sets.
 pub record AreRounds (chosen : ChosenBits) (program : Program) (points : List ℕ) (rounds : BusyRounds) : Type 0 where
   pub same_bits : rounds.chosen ≡ chosen
   pub same : rounds.tests.items ≡ points
   pub are : ArePoints program points
-  pub some : 0 < rounds.width
-  pub few : length points * rounds.width ≤ 2 ^ 25
+  pub bounded : IfSome rounds.bounds (λ bounds. bounds ≡ program)
+  pub some : 0 < rounds.least
+  pub wide : 0 < rounds.width
+  pub shared : rounds.share ≤ 2 ^ 25
+  pub few : length points * rounds.least ≤ 2 ^ 25
   pub within : 64 * rounds.until < bits program Busy + 64
   pub ordered : rounds.first ≤ rounds.until
   pub wanted : (word : ℕ) → rounds.first ≤ word → word < rounds.until → wants_word chosen Busy word ≡ true
   pub unwanted : (word : ℕ) → word < rounds.first → wants_word chosen Busy word ≡ false
   pub count : length rounds.busy.firsts.items ≡ length points
   pub answered : TellBusy chosen program points (busy_lists rounds.busy) rounds.until
+
+-- The queries of a round: for each test those of the words from one on that are not told yet, at places that are kept.
+pub record AreRoundQueries (program : Program) (points : List ℕ) (from until : ℕ) (starts : List ℕ) (queries : List Query) : Type 0 where
+  pub count : length starts ≡ length points + 1
+  pub each : (i point : ℕ) → slice_get points i ≡ Some point
+      → AreAsked program queries point from until (slice_index starts i) (slice_index starts (i + 1))
+
+pub record IsRound (program : Program) (rounds : BusyRounds) (queries : List Query) : Type 0 where
+  pub past : rounds.first ≤ rounds.from
+  pub before : rounds.from ≤ rounds.until
+  pub less : rounds.first < rounds.until → rounds.from < rounds.until
+  pub queried : AreRoundQueries program rounds.tests.items rounds.from rounds.until rounds.starts.items queries
+
+-- But for the round that is asked, the rounds are as they were.
+pub record IsSameBut (old new : BusyRounds) : Type 0 where
+  pub chosen : new.chosen ≡ old.chosen
+  pub tests : new.tests.items ≡ old.tests.items
+  pub until : new.until ≡ old.until
+  pub first : new.first ≡ old.first
+  pub least : new.least ≡ old.least
+  pub share : new.share ≡ old.share
+
+-- The words of a round's sets are words of the program that are wanted, and the bounds are the program's.
+pub record AreWordsOf (program : Program) (words : RoundWords) : Type 0 where
+  pub bounded : IfSome words.bounds.now (λ bounds. bounds ≡ program)
+  pub ordered : words.first ≤ words.end
+  pub within : 64 * words.end < bits program Busy + 64
+  pub wanted : (word : ℕ) → words.first ≤ word → word < words.end → wants_word words.chosen Busy word ≡ true

@@ -1,5 +1,5 @@
 -- What a report asks of the four analyses, and where its queries stand among all.
-use Rattle.std.specs.Prelude.{◌≡◌, ℕ, ◌-◌, ◌*◌, ◌/◌, ◌%◌, ◌^◌, ◌<◌, ◌≤◌, false, List, Some, length, slice_get, slice_index, slice_index_or, take}
+use Rattle.std.specs.Prelude.{◌≡◌, ◌+◌, ℕ, ◌-◌, ◌*◌, ◌/◌, ◌%◌, ◌^◌, ◌<◌, ◌≤◌, false, List, Some, length, slice_get, slice_index, slice_index_or, take}
 use Rattle.bit_rows.specs.Words.{has_bit}
 use Rattle.flow_graph.specs.Points.{kind_at, point_count}
 use Rattle.flow_graph.specs.declared.analysis.Analysis.TheVariants.{Busy}
@@ -7,7 +7,7 @@ use Rattle.flow_queries.specs.Queries.{AreAnswers, AreQueriesOf, Replies, flags_
 use Rattle.flow_team.specs.Tables.{Facts}
 use Rattle.flow_queries.specs.declared.query.Query.{Query}
 use Rattle.report_answers.specs.code.Querying.{QueriesAssigned, QueriesEvaluated, QueriesReads, IsAmongTests}
-use Rattle.report_answers.specs.code.Busy.{ArePoints, AreRounds, QueriesRound, BusyLists, TellBusy, busy_lists, busy_mask, round_start}
+use Rattle.report_answers.specs.code.Busy.{ArePoints, AreRounds, BusyLists, IsRound, TellBusy, busy_lists, busy_mask}
 use Rattle.report_answers.specs.code.Chosen.{AsksOnly}
 use Rattle.report_answers.specs.declared.chosen_bits.ChosenBits.{ChosenBits}
 use Rattle.report_answers.specs.declared.chosen_bits.ChosenBits.TheVariants as choice
@@ -31,11 +31,12 @@ abbrev pub AreQueried : ChosenBits → Program → List Query → List ℕ → L
 AreQueried chosen program queries tests places = (point : ℕ) (here : PointQueries) (kind : StmtKind) → slice_get places point ≡ Some here
     → kind_at program point ≡ Some kind → AreQueriedAt chosen program queries tests here point kind
 
--- What a report asks of a program, as far as it is wanted: at most four words for each point, and there are no more tests than points.
+-- What a report asks of a program, as far as it is wanted: at most four words for each statement, of a test fewer, and there are no more tests
+-- than points.
 pub record AreReportQueries (chosen : ChosenBits) (program : Program) (all : ReportQueries) : Type 0 where
   pub queries : AreQueriesOf program all.queries.items
   pub only : AsksOnly chosen all.queries.items
-  pub few : length all.queries.items ≤ 4 * point_count program
+  pub few : length all.queries.items + length all.tests.items ≤ 4 * (point_count program - 1)
   pub count : length all.places.items ≡ point_count program
   pub queried : AreQueried chosen program all.queries.items all.tests.items all.places.items
   pub points : ArePoints program all.tests.items
@@ -84,12 +85,11 @@ pub record IsFirstRoundOf (chosen : ChosenBits) (program : Program) (all : List 
   pub queries : AreQueriesOf program all
   pub only : AsksOnly chosen all
   pub few : 64 * length all < 2 ^ 32
-  pub before : (first.before ≤ 2 ^ 25) × (first.before ≤ length all)
+  pub before : (first.before < 2 ^ 26) × (first.before ≤ length all)
   pub count : length first.places.items ≡ point_count program
   pub queried : AreQueried chosen program (take first.before all) first.rounds.tests.items first.places.items
   pub rounds : AreRounds chosen program first.rounds.tests.items first.rounds
-  pub round : QueriesRound first.rounds.tests.items (round_start first.rounds.first first.rounds.width first.rounds.until)
-      (first.rounds.until - round_start first.rounds.first first.rounds.width first.rounds.until) first.before all
+  pub round : IsRound program first.rounds all
 
 abbrev pub IsFirstRound : Program → List Query → FirstRound → Type 0
 IsFirstRound program = IsFirstRoundOf choice.All program
@@ -116,8 +116,7 @@ pub record IsNextRoundOf (chosen : ChosenBits) (program : Program) (known : Late
   pub queries : AreQueriesOf program all
   pub only : AsksOnly chosen all
   pub few : 64 * length all < 2 ^ 32
-  pub round : QueriesRound known.rounds.tests.items (round_start known.rounds.first known.rounds.width known.rounds.until)
-      (known.rounds.until - round_start known.rounds.first known.rounds.width known.rounds.until) 0 all
+  pub round : IsRound program known.rounds all
 
 abbrev pub IsNextRound : Program → LaterRounds → List Query → Type 0
 IsNextRound program = IsNextRoundOf choice.All program

@@ -34,3 +34,6 @@ returns-in-Some-clause-queried c =
     put_there c.args.queries.now.items c.put_query.new.queries.items c.wanted_query.result is
     ∙ ap (λ a. Some a) (c.wanted_query.ensures ∙ ap (wanted_query c.args.chosen Live (c.args.point + 1)) same))
     c.put_query.ensures
+
+pub returns-in-Some-clause-none : goal.returns-in-Some-clause-none
+returns-in-Some-clause-none c = λ none. absurd (cc (c.in-Some.ensures ∙ none))

@@ -1,11 +1,13 @@
-use Rattle.std.proofs.Common.{rules, ◌≡◌, ℕ, List, length, subst, sym, arith}
+use Rattle.std.proofs.Common.{rules, ◌≡◌, ◌+◌, ◌≤◌, ℕ, List, length, inl, inr, ap, subst, sym, arith}
+use Rattle.flow_graph.proofs.places.Standing.{stands}
 use Rattle.flow_graph.specs.declared.analysis.Analysis.TheVariants.{Avail}
 use Rattle.flow_queries.specs.declared.query.Query.{Query}
 use Rattle.report_answers.specs.code.Chosen.{wanted_query}
 use Rattle.tac_program.specs.declared.program.StmtKind.{StmtKind}
 use Rattle.report_answers.specs.code.Querying.{Queries, QueriesAssigned, QueriesEvaluated, QueriesReads, IsAmongTests}
 use Rattle.tac_program.specs.Programs.{Program}
-use Rattle.report_answers.proofs.queries.Querying.{queries_then, reads_still}
+use Rattle.report_answers.proofs.queries.Querying.{queries_then, reads_still, tests_count}
+use Rattle.report_answers.proofs.queries.Statements.{next_below, tests_assign_nothing}
 use Rattle.report_answers.proofs.report_queries.query_kind.Goals as goal
 
 pub returns-clause-queries : goal.returns-clause-queries
@@ -41,3 +43,26 @@ returns-clause-queried c =
       assigned = subst (λ (q : ℕ). QueriesAssigned c.args.chosen e q point kind) (sym third) c.in_ok-query_assigned.ensures.queried;
       test = subst (λ (q : ℕ). IsAmongTests c.put_test.new.tests.items q point kind) (sym fourth) c.in_ok-put_test.ensures.queried;
     }
+
+pub returns-clause-both : goal.returns-clause-both
+returns-clause-both c =
+    let old : List ℕ = c.args.tests.now.items in
+    let new : List ℕ = c.put_test.new.tests.items in
+    let reads = c.in_ok-query_reads.ensures.queries.count in
+    let evaluates = c.in_ok-query_evaluated.ensures.queries.count in
+    let assigns = c.in_ok-query_assigned.ensures.queries.count in
+    let tested : length new ≤ length old + 1 = tests_count old new c.args.point c.in_ok-put_test.ensures.more in
+    elim c.in_ok-put_test.ensures.none [
+      | inl test ↦
+          let same : length c.query_assigned.new.queries.items ≡ length c.query_evaluated.new.queries.items =
+          ap length (c.in_ok-query_assigned.ensures.none (tests_assign_nothing c.args.kind.now test)) in
+          omega (arith, reads, evaluates, same, tested)
+      | inr still ↦
+          let same : length new ≡ length old = ap length still in
+          omega (arith, reads, evaluates, assigns, same)
+    ]
+
+pub returns-clause-behind : goal.returns-clause-behind
+returns-clause-behind c =
+    next_below c.args.graph.now c.args.point c.args.kind.now
+    (stands c.args.graph.now c.requires.sound c.args.point c.args.kind.now c.requires.point c.requires.kind)

@@ -1,4 +1,4 @@
-use Rattle.std.proofs.Common.{rules, ◌≡◌, ◌+◌, ◌<◌, ℕ, List, [], ◌∷◌, length, ap, ◌∙◌, length-append, arith}
+use Rattle.std.proofs.Common.{rules, ◌≡◌, inl, inr, ◌+◌, ◌<◌, ℕ, List, [], ◌∷◌, length, ap, ◌∙◌, length-append, arith}
 use Rattle.flow_graph.specs.Points.{point_count}
 use Rattle.flow_queries.specs.declared.query.Query.{Query}
 use Rattle.report_answers.specs.declared.report_queries.PointQueries.{PointQueries}
@@ -23,7 +23,11 @@ loop-point-preserved c =
     record {
       queries = answered.queries.of was.queries;
       only = answered.queries.only was.only;
-      few = omega (arith, answered.queries.count, was.few);
+      few = omega (arith, answered.both, was.few);
+      fewer = elim answered.last [
+        | inl none ↦ inl (omega (arith, none, was.few))
+        | inr next ↦ inr next
+      ];
       count = omega (arith, count, was.count);
       queried =
           queried_more c.args.chosen program old new before after places c.push.new.self.items here point 4 c.in_ok-push.ensures.items was.count answered.queries

@@ -8,8 +8,8 @@ use Rattle.report_answers.proofs.busy.Within.{is_in, is_below, is_past}
 use Rattle.tac_program.specs.Programs.{Program}
 use Rattle.report_answers.proofs.busy_rounds.BusyRounds.of.Goals as goal
 
-pub returns : goal.returns
-returns c =
+pub returns-clause-rounds : goal.returns-clause-rounds
+returns-clause-rounds c =
     let program : Program = c.args.graph.now in
     let words : ℕ = c.words_for-words.result in
     let range : WordRange = c.busy_words-first.result in
@@ -21,9 +21,12 @@ returns c =
     record {
       same_bits = refl;
       same = refl;
+      bounded = c.requires.bounds;
+      wide = grind (arith, c.max.ensures);
+      shared = omega (arith, c.share_of-share.ensures, c.round_room.ensures.few);
       are = c.requires.points;
-      some = c.round_width-width.ensures.some;
-      few = subst (λ (n : ℕ). n * c.round_width-width.result ≤ 2 ^ 25) count c.round_width-width.ensures.few;
+      some = c.least_width-least.ensures.some;
+      few = subst (λ (n : ℕ). n * c.least_width-least.result ≤ 2 ^ 25) count c.least_width-least.ensures.few;
       within = omega (arith, within, high);
       ordered = ordered;
       wanted = λ word from until.
@@ -38,3 +41,11 @@ returns c =
           let both : true ≡ false = sym is.0 ∙ c.busy_words-first.ensures.asked (bit / 64) below ∙ is_past range (bit / 64) (omega (arith, above)) in
           cc both));
     }
+
+pub returns-clause-room : goal.returns-clause-room
+returns-clause-room c =
+    let count : c.len.result ≡ length c.args.tests.items = search rules in
+    subst (λ (n : ℕ). c.args.before + n * c.least_width-least.result < 2 ^ 26) count c.least_width-least.ensures.room
+
+pub returns-clause-shared : goal.returns-clause-shared
+returns-clause-shared c = omega (arith, c.share_of-share.ensures, c.round_room.ensures.room)

@@ -1,4 +1,4 @@
-use Rattle.std.proofs.Common.{rules, ◌≡◌, ◌∙◌, ◌+◌, ◌<◌, ◌≤◌, ℕ, length, slice_index, inl, inr, ap, subst, arith}
+use Rattle.std.proofs.Common.{rules, ◌≡◌, ◌∙◌, ◌<◌, ◌≤◌, ℕ, length, slice_index, inl, inr, ap, subst, arith}
 use Rattle.std.proofs.lemmas.Bool.{cases_lt}
 use Rattle.std.proofs.lemmas.Option.{get_or_from_slice_get, slice_get-get_or, slice_get_within}
 use Rattle.report_answers.specs.code.Busy.{AreBusy, BusyLists, busy_lists}
@@ -36,7 +36,7 @@ loop-test-preserved c =
       ];
       left = λ i point above there.
           let other : ¬ (i ≡ test) = λ same. omega (arith, above, same) in
-          others_still c.args.round.chosen program old new test i point (c.args.round.from + c.args.round.width) put.keeps other
+          others_still c.args.round.chosen program old new test i point c.args.round.until put.keeps other
           (was.left i point (omega (arith, above)) there);
     }
 

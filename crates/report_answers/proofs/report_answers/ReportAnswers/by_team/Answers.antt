@@ -4,17 +4,20 @@ use Rattle.flow_queries.specs.Queries.{AreAnswers, AreQueriesOf}
 use Rattle.flow_queries.specs.declared.query.Query.{Query}
 use Rattle.report_answers.specs.code.Reported.{IsNextRoundOf, TellChosen, TellRestOf, words_left}
 use Rattle.report_answers.specs.declared.chosen_bits.ChosenBits.{ChosenBits}
+use Rattle.report_answers.specs.declared.report_rounds.LaterRounds.{LaterRounds}
 use Rattle.tac_program.specs.Programs.{Program}
 use Rattle.report_answers.proofs.report_answers.ReportAnswers.by_team.Goals as goal
 
 pub answer-requires-clause-queries : goal.answer-requires-clause-queries
-answer-requires-clause-queries g c = λ κs lives. subst (λ (p : Program). AreQueriesOf p c.args.queries.items) (sym c.in_ok-solvers.ensures) c.requires.queries
+answer-requires-clause-queries g c = λ κs lives.
+    subst (λ (p : Program). AreQueriesOf p c.args.queries.items) (sym c.requires.solvers) c.requires.first.queries
 
 pub answer-requires-in-Some-clause-queries : goal.answer-requires-in-Some-clause-queries
 answer-requires-in-Some-clause-queries g c = λ κs lives.
-    let next : IsNextRoundOf c.loop-rounds.rounds.rounds.chosen c.args.graph.now c.loop-rounds.rounds c.in-Some.queries.items =
-    subst (λ o. MatchOption o (words_left c.loop-rounds.rounds ≡ 0) (λ queries. IsNextRoundOf c.loop-rounds.rounds.rounds.chosen c.args.graph.now c.loop-rounds.rounds queries.items))
-    c.in-Some.is c.in_ok-queries.ensures in
+    let new : LaterRounds = c.next_chosen.new.self in
+    let next : IsNextRoundOf c.loop-rounds.rounds.rounds.chosen c.args.graph.now new c.in-Some.queries.items =
+    subst (λ o. MatchOption o (words_left new ≡ 0) (λ queries. IsNextRoundOf c.loop-rounds.rounds.rounds.chosen c.args.graph.now new queries.items))
+    c.in-Some.is c.in_ok-queries.ensures.next in
     subst (λ (p : Program). AreQueriesOf p c.in-Some.queries.items) (sym c.loop-rounds.invariant.solvers) next.queries
 
 pub put_round-requires-clause-answers : goal.put_round-requires-clause-answers
@@ -23,10 +26,13 @@ put_round-requires-clause-answers g c =
 
 pub put_round-requires-clause-round : goal.put_round-requires-clause-round
 put_round-requires-clause-round g c =
-    let next : IsNextRoundOf c.loop-rounds.rounds.rounds.chosen c.args.graph.now c.loop-rounds.rounds c.in-Some.queries.items =
-    subst (λ o. MatchOption o (words_left c.loop-rounds.rounds ≡ 0) (λ queries. IsNextRoundOf c.loop-rounds.rounds.rounds.chosen c.args.graph.now c.loop-rounds.rounds queries.items))
-    c.in-Some.is c.in_ok-queries.ensures in
-    subst (λ (queries : List Query). IsNextRoundOf c.loop-rounds.rounds.rounds.chosen c.args.graph.now c.loop-rounds.rounds queries) (sym c.in_ok-answers-2.ensures.queries) next
+    let new : LaterRounds = c.next_chosen.new.self in
+    let next : IsNextRoundOf c.loop-rounds.rounds.rounds.chosen c.args.graph.now new c.in-Some.queries.items =
+    subst (λ o. MatchOption o (words_left new ≡ 0) (λ queries. IsNextRoundOf c.loop-rounds.rounds.rounds.chosen c.args.graph.now new queries.items))
+    c.in-Some.is c.in_ok-queries.ensures.next in
+    subst (λ (chosen : ChosenBits). IsNextRoundOf chosen c.args.graph.now new c.in_ok-answers-2.answers.queries) (sym c.in_ok-queries.ensures.rest.rounds.same_bits)
+    (subst (λ (queries : List Query). IsNextRoundOf c.loop-rounds.rounds.rounds.chosen c.args.graph.now new queries)
+    (sym c.in_ok-answers-2.ensures.queries) next)
 
 pub next_chosen-requires : goal.next_chosen-requires
 next_chosen-requires g c =
@@ -35,24 +41,25 @@ next_chosen-requires g c =
 
 pub put_round-requires-clause-rest : goal.put_round-requires-clause-rest
 put_round-requires-clause-rest g c =
-    let inv = c.loop-rounds.invariant in
-    subst (λ (chosen : ChosenBits). TellRestOf chosen c.args.graph.now c.loop-rounds.rounds) (sym inv.rest.rounds.same_bits) inv.rest
+    let rest = c.in_ok-queries.ensures.rest in
+    subst (λ (chosen : ChosenBits). TellRestOf chosen c.args.graph.now c.next_chosen.new.self) (sym rest.rounds.same_bits) rest
 
 pub loop-rounds-preserved : goal.loop-rounds-preserved
 loop-rounds-preserved g c =
     let inv = c.loop-rounds.invariant in
     record {
-      rest = subst (λ (chosen : ChosenBits). TellRestOf chosen c.args.graph.now c.put_round.new.self) inv.rest.rounds.same_bits
-          c.in_ok-put_round.ensures.rest;
+      rest = subst (λ (chosen : ChosenBits). TellRestOf chosen c.args.graph.now c.put_round.new.self)
+          (c.in_ok-queries.ensures.rest.rounds.same_bits ∙ inv.rest.rounds.same_bits) c.in_ok-put_round.ensures.rest;
       solvers = c.in_ok-answers-2.ensures.solvers ∙ inv.solvers;
     }
 
 pub done_chosen-requires-clause-rest : goal.done_chosen-requires-clause-rest
 done_chosen-requires-clause-rest g c =
-    let inv = c.loop-rounds.invariant in
-    subst (λ (chosen : ChosenBits). TellRestOf chosen c.args.graph.now c.loop-rounds.rounds) (sym inv.rest.rounds.same_bits) inv.rest
+    let rest = c.in_ok-queries.ensures.rest in
+    subst (λ (chosen : ChosenBits). TellRestOf chosen c.args.graph.now c.next_chosen.new.self) (sym rest.rounds.same_bits) rest
 
 pub returns : goal.returns
 returns g c =
     let inv = c.loop-rounds.invariant in
-    subst (λ (chosen : ChosenBits). TellChosen chosen c.args.graph.now c.done_chosen.result) inv.rest.rounds.same_bits c.done_chosen.ensures
+    subst (λ (chosen : ChosenBits). TellChosen chosen c.args.graph.now c.done_chosen.result)
+    (c.in_ok-queries.ensures.rest.rounds.same_bits ∙ inv.rest.rounds.same_bits) c.done_chosen.ensures

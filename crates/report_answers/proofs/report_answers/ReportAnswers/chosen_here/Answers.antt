@@ -4,17 +4,20 @@ use Rattle.flow_queries.specs.Queries.{AreAnswers, AreQueriesOf}
 use Rattle.flow_queries.specs.declared.query.Query.{Query}
 use Rattle.report_answers.specs.code.Reported.{IsFirstRoundOf, IsNextRoundOf, TellChosen, TellRestOf, words_left}
 use Rattle.report_answers.specs.declared.chosen_bits.ChosenBits.{ChosenBits}
+use Rattle.report_answers.specs.declared.report_rounds.LaterRounds.{LaterRounds}
 use Rattle.tac_program.specs.Programs.{Program}
 use Rattle.report_answers.proofs.report_answers.ReportAnswers.chosen_here.Goals as goal
 
 pub answer_here-requires-clause-queries : goal.answer_here-requires-clause-queries
-answer_here-requires-clause-queries c = subst (λ (p : Program). AreQueriesOf p c.in_ok-queries.queries.items) (sym c.in_ok-solvers.ensures) c.in_ok-queries.ensures.queries
+answer_here-requires-clause-queries c =
+    subst (λ (p : Program). AreQueriesOf p c.in_ok-queries.queries.items) (sym c.in_ok-solvers.ensures) c.in_ok-queries.ensures.queries
 
 pub answer_here-requires-in-Some-clause-queries : goal.answer_here-requires-in-Some-clause-queries
 answer_here-requires-in-Some-clause-queries c =
-    let next : IsNextRoundOf c.loop-rounds.rounds.rounds.chosen c.args.graph.now c.loop-rounds.rounds c.in-Some.queries.items =
-    subst (λ o. MatchOption o (words_left c.loop-rounds.rounds ≡ 0) (λ queries. IsNextRoundOf c.loop-rounds.rounds.rounds.chosen c.args.graph.now c.loop-rounds.rounds queries.items))
-    c.in-Some.is c.in_ok-queries-2.ensures in
+    let new : LaterRounds = c.next_chosen.new.self in
+    let next : IsNextRoundOf c.loop-rounds.rounds.rounds.chosen c.args.graph.now new c.in-Some.queries.items =
+    subst (λ o. MatchOption o (words_left new ≡ 0) (λ queries. IsNextRoundOf c.loop-rounds.rounds.rounds.chosen c.args.graph.now new queries.items))
+    c.in-Some.is c.in_ok-queries-2.ensures.next in
     subst (λ (p : Program). AreQueriesOf p c.in-Some.queries.items) (sym c.loop-rounds.invariant.solvers) next.queries
 
 pub put_round-requires-clause-answers : goal.put_round-requires-clause-answers
@@ -23,10 +26,13 @@ put_round-requires-clause-answers c =
 
 pub put_round-requires-clause-round : goal.put_round-requires-clause-round
 put_round-requires-clause-round c =
-    let next : IsNextRoundOf c.loop-rounds.rounds.rounds.chosen c.args.graph.now c.loop-rounds.rounds c.in-Some.queries.items =
-    subst (λ o. MatchOption o (words_left c.loop-rounds.rounds ≡ 0) (λ queries. IsNextRoundOf c.loop-rounds.rounds.rounds.chosen c.args.graph.now c.loop-rounds.rounds queries.items))
-    c.in-Some.is c.in_ok-queries-2.ensures in
-    subst (λ (queries : List Query). IsNextRoundOf c.loop-rounds.rounds.rounds.chosen c.args.graph.now c.loop-rounds.rounds queries) (sym c.in_ok-answers-2.ensures.queries) next
+    let new : LaterRounds = c.next_chosen.new.self in
+    let next : IsNextRoundOf c.loop-rounds.rounds.rounds.chosen c.args.graph.now new c.in-Some.queries.items =
+    subst (λ o. MatchOption o (words_left new ≡ 0) (λ queries. IsNextRoundOf c.loop-rounds.rounds.rounds.chosen c.args.graph.now new queries.items))
+    c.in-Some.is c.in_ok-queries-2.ensures.next in
+    subst (λ (chosen : ChosenBits). IsNextRoundOf chosen c.args.graph.now new c.in_ok-answers-2.answers.queries) (sym c.in_ok-queries-2.ensures.rest.rounds.same_bits)
+    (subst (λ (queries : List Query). IsNextRoundOf c.loop-rounds.rounds.rounds.chosen c.args.graph.now new queries)
+    (sym c.in_ok-answers-2.ensures.queries) next)
 
 pub next_chosen-requires : goal.next_chosen-requires
 next_chosen-requires c =
@@ -35,27 +41,28 @@ next_chosen-requires c =
 
 pub put_round-requires-clause-rest : goal.put_round-requires-clause-rest
 put_round-requires-clause-rest c =
-    let inv = c.loop-rounds.invariant in
-    subst (λ (chosen : ChosenBits). TellRestOf chosen c.args.graph.now c.loop-rounds.rounds) (sym inv.rest.rounds.same_bits) inv.rest
+    let rest = c.in_ok-queries-2.ensures.rest in
+    subst (λ (chosen : ChosenBits). TellRestOf chosen c.args.graph.now c.next_chosen.new.self) (sym rest.rounds.same_bits) rest
 
 pub loop-rounds-preserved : goal.loop-rounds-preserved
 loop-rounds-preserved c =
     let inv = c.loop-rounds.invariant in
     record {
-      rest = subst (λ (chosen : ChosenBits). TellRestOf chosen c.args.graph.now c.put_round.new.self) inv.rest.rounds.same_bits
-          c.in_ok-put_round.ensures.rest;
+      rest = subst (λ (chosen : ChosenBits). TellRestOf chosen c.args.graph.now c.put_round.new.self)
+          (c.in_ok-queries-2.ensures.rest.rounds.same_bits ∙ inv.rest.rounds.same_bits) c.in_ok-put_round.ensures.rest;
       solvers = c.in_ok-answers-2.ensures.solvers ∙ inv.solvers;
     }
 
 pub done_chosen-requires-clause-rest : goal.done_chosen-requires-clause-rest
 done_chosen-requires-clause-rest c =
-    let inv = c.loop-rounds.invariant in
-    subst (λ (chosen : ChosenBits). TellRestOf chosen c.args.graph.now c.loop-rounds.rounds) (sym inv.rest.rounds.same_bits) inv.rest
+    let rest = c.in_ok-queries-2.ensures.rest in
+    subst (λ (chosen : ChosenBits). TellRestOf chosen c.args.graph.now c.next_chosen.new.self) (sym rest.rounds.same_bits) rest
 
 pub returns : goal.returns
 returns c =
     let inv = c.loop-rounds.invariant in
-    subst (λ (chosen : ChosenBits). TellChosen chosen c.args.graph.now c.done_chosen.result) inv.rest.rounds.same_bits c.done_chosen.ensures
+    subst (λ (chosen : ChosenBits). TellChosen chosen c.args.graph.now c.done_chosen.result)
+    (c.in_ok-queries-2.ensures.rest.rounds.same_bits ∙ inv.rest.rounds.same_bits) c.done_chosen.ensures
 
 pub put_chosen-requires-clause-first : goal.put_chosen-requires-clause-first
 put_chosen-requires-clause-first c =

@@ -1,0 +1,2 @@
+pub mod BusyBounds
+pub mod code

@@ -1,0 +1,3 @@
+-- How the crate's own lists stand for sets of expressions.
+pub mod Kept
+pub mod Sets
