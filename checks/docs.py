@@ -31,7 +31,7 @@ SIZES = {
     "docs/ARCHITECTURE.md": 210,
     "docs/TRUST.md": 230,
     "docs/DECISIONS.md": 320,
-    "docs/PROVING.md": 395,
+    "docs/PROVING.md": 400,
     "docs/GLOSSARY.md": 80,
     "README.md": 182,
 }

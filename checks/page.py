@@ -22,6 +22,7 @@ from collections.abc import Callable
 
 import browser
 from browser import Browser, Row
+from page_rounds import check_rounds
 from shown import FORWARD, KINDS, Lines
 
 HERE = os.path.dirname(os.path.realpath(__file__))
@@ -139,13 +140,33 @@ def check_rows(page: Browser, lines: Lines) -> None:
     for row in rows:
         point, remarks = lines.points[row["point"]], lines.remarks[row["point"]]
         wanted = [str(point["line"] or ""), point["statement"] or "end"]
-        same("a row", [row["line"], row["text"]], wanted)
+        if not lines.sources:
+            same("a row", [row["line"], row["text"]], wanted)
+        elif point["line"]:
+            same("the line of a row", row["line"], wanted[0])
         weightiest = remarks[0]["kind"] if remarks else "plain"
         assert weightiest in row["kinds"], (row, weightiest)
         for remark in remarks[:3]:
             about = remark.get("variable") or remark.get("expression") or "never reached"
             assert about in row["said"], (row, remark)
         assert remarks or not row["said"], row
+
+
+FILE_ROWS = """[...document.querySelectorAll("#listing .row")].map(row => [row.querySelector(".number").textContent,
+  row.querySelector("code, .name").textContent])"""
+
+
+def check_source_rows(page: Browser, lines: Lines) -> None:
+    """With the source the rows are the file's lines, those of statements and of ends can be chosen."""
+    if not lines.sources:
+        return
+    texts = [(str(row["line"]), row["text"].encode("latin-1")) for row in lines.sources]
+    wanted = [[number, text.decode("utf-8", "replace")] for number, text in texts]
+    same("the file's lines", page.evaluate(FILE_ROWS), wanted)
+    ends = [row for row in lines.sources if row["text"].split("#")[0].strip() == "end"]
+    count = "document.querySelectorAll('[role=option]').length"
+    statements = [row for row in lines.points.values() if row["line"]]
+    same("rows to choose", page.evaluate(count), len(statements) + len(ends))
 
 
 def check_points(page: Browser, lines: Lines) -> None:
@@ -349,6 +370,7 @@ def check_looks(page: Browser, lines: Lines) -> None:
 
 CHECKS: list[Callable[[Browser, Lines], None]] = [
     check_rows,
+    check_source_rows,
     check_points,
     check_moves,
     check_kinds,
@@ -370,7 +392,14 @@ def page_of(source: bytes, *words: str) -> bytes:
 
 
 def lines_of(source: bytes, *words: str) -> bytes:
-    return written(source, "--format", "json", *words)
+    """Lines with sets, whose points have where doubt comes from, too, which lines with changes tell."""
+    rows = [json.loads(line) for line in written(source, "--format", "json", *words).splitlines()]
+    others = ["--format", "json", "--changes", *(word for word in words if word != "--paths")]
+    differing = [json.loads(line) for line in written(source, *others).splitlines()]
+    origins = {row["point"]: row["leads_to"] for row in differing if row["type"] == "point"}
+    for row in rows:
+        row |= {"leads_to": origins[row["point"]]} if row["type"] == "point" else {}
+    return "".join(json.dumps(row) + "\n" for row in rows).encode()
 
 
 @functools.cache
@@ -390,13 +419,18 @@ def framed(rows: list[Row]) -> bytes:
     return before + lines.replace("<", "\\u003c").encode() + behind
 
 
-def check_page(page: Browser, path: str, text: bytes) -> None:
-    """All that is to be seen of a program."""
-    lines = Lines([json.loads(line) for line in text.splitlines()])
+def open_anew(page: Browser, path: str) -> None:
+    """Opens a page in a wide window, in light colours."""
     page.faults.clear()
     page.size(*WIDE)
     page.dark(False)
     page.open(path)
+
+
+def check_page(page: Browser, path: str, text: bytes) -> None:
+    """All that is to be seen of a program."""
+    lines = Lines([json.loads(line) for line in text.splitlines()])
+    open_anew(page, path)
     for check in CHECKS:
         check(page, lines)
     same("what the page logged or asked for", page.faults, [])
@@ -448,6 +482,22 @@ N:
 w = 5
 end
 """
+# Comments, blank lines, labels of their own, a tab, and lines that end with a carriage return too.
+COMMENTED = b"""# a comment <b> \xc3\xa4
+
+proc main # here
+\tread a  # a tab before
+L:
+  if a goto L
+\r
+M: print b
+  call f
+end
+# between
+proc f
+  x = 1
+end # no more
+"""
 # One line without a remark; doubt before a call that does not come back, and what is never reached
 # behind it, behind a jump, and in a procedure of its own.
 ONE = b"proc main\nskip\nend\n"
@@ -492,6 +542,7 @@ def programs() -> list[Page]:
         ("one procedure", PASSES, ["--procedure", "h", "--paths"]),
         ("some facts", example("remarks"), ["--facts", "live,avail"]),
         ("no facts", example("recursion"), ["--facts", "none"]),
+        ("with its source", COMMENTED, ["--source", "--paths"]),
     ]
     return [whole(*each) for each in tried]
 
@@ -503,6 +554,24 @@ def whole(name: str, source: bytes, words: list[str]) -> Page:
         check_page(page, path, lines_of(source, *words))
 
     return Page(name, functools.partial(page_of, source, "--title", name, *words), check)
+
+
+def rounds(name: str, source: bytes, procedure: str, *words: str) -> Page:
+    """The page of the rounds in a procedure; behind these what any page has, in the end's sets."""
+    one = ["--procedure", procedure, *words]
+
+    def check(page: Browser, path: str) -> None:
+        open_anew(page, path)
+        steps = written(source, "--format", "json", "--steps", *one).splitlines()
+        check_rounds(page, [json.loads(line) for line in steps], FAINT)
+        for key in "se0":
+            page.press(key)
+        lines = Lines([json.loads(line) for line in lines_of(source, *one).splitlines()])
+        for each in CHECKS:
+            each(page, lines)
+        same("what the page logged or asked for", page.faults, [])
+
+    return Page(name, functools.partial(page_of, source, "--steps", *one), check)
 
 
 HOSTILE = [
@@ -715,6 +784,10 @@ def try_page(page: Browser, folder: str, each: Page) -> None:
 def tries(words: list[str], folder: str, page: Browser) -> list[tuple[str, Callable[[], None]]]:
     """All that is tried, or those of some names."""
     pages = programs()
+    pages.append(rounds("rounds", example("textbook_reaching"), "main"))
+    pages.append(rounds("rounds around calls", PASSES, "main"))
+    pages.append(rounds("rounds in a loop", PASSES, "h", "--facts", "reach,avail"))
+    pages.append(rounds("rounds where no path leads", ODD, "lonely", "--facts", "busy"))
     pages.append(Page("hostile", hostile_page, check_hostile))
     pages.append(Page("many", many_page, check_many))
     if shutil.which("gcc"):

@@ -45,14 +45,15 @@ TEXTS = [
 WORDS = {
     "tacflow": [f"--show {kind}" for kind in ("report", "list", "reach", "live", "avail", "busy")],
     "tacview": [
-        "--format dot",
         "--format dot --facts all",
         "--because 4:c",
         "--format json",
         "--format json --paths",
-        "--format json --procedure main",
-        "--format html --paths --title main",
+        "--format json --steps --procedure main --facts all",
+        "--format html --source --paths --title main",
         "--format report",
+        "--calls",
+        "--blocks --procedure main",
     ],
     "taclint": ["-", "--kinds all -", "--why --workers 3 -", "--limits large /dev/stdin"],
 }

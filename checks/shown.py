@@ -30,6 +30,7 @@ class Lines:
 
     def __init__(self, rows: list[Row]) -> None:
         self.head = rows[0]
+        self.sources: list[Row] = [row for row in rows if row["type"] == "source"]
         self.points: dict[int, Row] = {r["point"]: r for r in rows if r["type"] == "point"}
         told = [row for row in rows if row["type"] == "remark"]
         told += [{**row, "kind": "doubt"} for row in rows if row["type"] == "doubt"]
@@ -88,13 +89,17 @@ class Lines:
         found = {
             "from": [self.link(each, number) for each in sorted(self.into[number])],
             "calls": [self.link(each, number) for each in calls],
-            "behind the call" if calls else "next": [
+            "behind the call" if self.is_call(number) else "next": [
                 words[self.outcome(number, each)] + self.link(each, number)
                 for each in self.next(number)
             ],
             "returns to": [self.link(each, number) for each in returns],
         }
-        return {word: links for word, links in found.items() if links}
+        shown = {word: links for word, links in found.items() if links}
+        origin = self.points[number]["leads_to"]
+        if origin is not None:
+            shown["doubtful"] = [] if origin == number else [self.link(origin, number)]
+        return shown
 
     def around(self, remark: Row) -> Row:
         """What stands around a remark, as its links say it."""

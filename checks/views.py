@@ -20,6 +20,7 @@ import tempfile
 from typing import Any
 
 from schema import Schema
+from sets import Graph
 
 Row = dict[str, Any]  # an object of a line of JSON
 
@@ -468,6 +469,16 @@ def check_made_of(program: Row, points: list[Row]) -> None:
         assert parts == value_of(name.split(), variables), (name, parts)
 
 
+def check_origins(program: Row, points: list[Row]) -> None:
+    """Each doubtful point leads to one from which no valid path leads to the end of main, as a search
+    along the edges finds it, and no other point tells one."""
+    graph = Graph([program, *points])
+    for row in points:
+        endless = graph.endless(row["point"])
+        assert row["doubtful"] == bool(endless), row
+        assert row["leads_to"] in (endless or {None}), (row, endless)
+
+
 def check_changes(source: bytes) -> None:
     """Differences give the sets of the other form, and the line of very busy expressions what the
     other form has one by one."""
@@ -475,6 +486,7 @@ def check_changes(source: bytes) -> None:
     named, differing, told = objects(source, "--changes")
     names = names_by_number(named)
     check_made_of(named, differing)
+    check_origins(named, differing)
     assert {name: named[name] for name in program} == program, named
     held: dict[str, set[int]] = {}
     for point, wanted in zip(differing, points, strict=True):
@@ -505,6 +517,38 @@ def one_by_one(remarks: list[Row], names: list[str]) -> list[Row]:
         one = {name: value for name, value in remark.items() if name != "expressions"}
         rows += [one if bit is None else {**one, "expression": names[bit]} for bit in bits]
     return rows
+
+
+def source_rows(source: bytes) -> list[Row]:
+    """The lines of a text, as they are to be told."""
+    rows, start = [], 0
+    for number, line in enumerate(re.findall(rb"[^\n]*\n|[^\n]+", source), 1):
+        text = re.sub(rb"\r?\n\Z", b"", line).decode("latin-1")
+        rows.append({"type": "source", "line": number, "start": start, "text": text})
+        start += len(line)
+    return rows
+
+
+def check_source(source: bytes) -> None:
+    """The lines of the source stand behind the first one, in each form and in a page; columns tell
+    where statements stand in them."""
+    wanted = source_rows(source)
+    behind = 1 + len(wanted)
+    for words in ([], ["--changes"], ["--paths"], ["--procedure", "main"]):
+        lines = run(TACVIEW, ["--format", "json", "--source", *words], source).splitlines()
+        told = [json.loads(line) for line in lines[1:behind]]
+        check_schema(told)
+        assert told == wanted, (words, told)
+        plain = run(TACVIEW, ["--format", "json", *words], source).splitlines()
+        assert lines[:1] + lines[behind:] == plain, words
+    lines = run(TACVIEW, ["--format", "json", "--source", "--changes"], source).splitlines()
+    assert lines_in(run(TACVIEW, ["--format", "html", "--source"], source)) == lines
+    for row in (json.loads(line) for line in lines[behind:]):
+        if row["type"] == "point" and row["line"] is not None:
+            line = wanted[row["line"] - 1]
+            column, end = row["start"] - line["start"], row["end"] - line["start"]
+            text = line["text"][column:end]
+            assert re.sub(r"\s", "", text) == re.sub(r"\s", "", row["statement"]), (text, row)
 
 
 def check_dot(source: bytes) -> None:
@@ -686,7 +730,7 @@ def check_rounds(source: bytes) -> None:
     ]
     for workers in ("1", "3"):
         rows = (
-            run_within(150000, ["--format", "report", "--workers", workers], source)
+            run_within(180000, ["--format", "report", "--workers", workers], source)
             .decode()
             .splitlines()
         )
@@ -740,12 +784,18 @@ def check_page(source: bytes) -> None:
     assert lines_in(written("html", "--paths")) == shown + paths
 
 
+# Comments with any bytes, lines that end with a carriage return too, tabs, blank lines, and no line
+# feed at the end.
+ODD_SOURCE = b"# \"a\\b\" </script>\r\n\r\nproc main\t# \xc3\xa4 \x00\x7f\xff\n\n"
+ODD_SOURCE += b"\tL :  x=1 # y\r\n  goto\tL\n \t \r\nend#\r\n# no more\r"
+
 CHECKS = (
     check_json,
     check_parts,
     check_changes,
     check_paths,
     check_page,
+    check_source,
     check_picture,
     check_dot,
     check_calls,
@@ -755,6 +805,7 @@ CHECKS = (
 def main() -> int:
     """Tries all examples, and two larger programs."""
     tries = [
+        ("odd source", check_source, ODD_SOURCE),
         ("many procedures", check_memory, many_procedures()),
         ("many tests", check_rounds, many_tests()),
     ]

@@ -123,6 +123,8 @@ impl Output for Options {
 
     ghost lacks = { λ _ _. ⊥ };
 
+    ghost exceeds = { λ _ _. ⊥ };
+
     ghost lacks_remark = { λ _ _. ⊥ };
 
     fn limits(&self) -> Limits {

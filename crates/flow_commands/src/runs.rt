@@ -2,7 +2,7 @@
 
 ghost use Rattle.std.specs.Prelude.{◌≡◌, ◌<◌, ◌+◌, ◌-◌, ◌^◌, true, false, IfErr, OnOk};
 ghost use Rattle.std.specs.Io.KnownBytes.{Keeps};
-ghost use Rattle.flow_runs.specs.Faults.{UnlessWrite, WhereNoGraph, WhereNoProcedure, WhereNoRemark};
+ghost use Rattle.flow_runs.specs.Faults.{UnlessWrite, WhereLargeProcedure, WhereNoGraph, WhereNoProcedure, WhereNoRemark};
 ghost use Rattle.flow_runs.specs.Faults.{WhereRefused, WhereWrite, read_faults_in, write_faults_in};
 ghost use Rattle.flow_runs.specs.Runs.{PullsOverLimit, PullsRefused, WritesAnswer, WritesBeginning};
 ghost use Rattle.tac_program.specs.declared.limits.Limits.TheVariants.{Standard};
@@ -41,6 +41,7 @@ pub fn run<R: Threads + Sync, S: Source, K: Sink>(
     ensures no_graph { IfErr result (WhereNoGraph (PullsOverLimit Standard (needs_graph options.show)
         (S.remaining source.old) (S.remaining source.new) (S.ended source.new))) }
     ensures all_procedures { IfErr result (WhereNoProcedure ⊥) }
+    ensures all_sizes { IfErr result (WhereLargeProcedure ⊥) }
     ensures all_remarks { IfErr result (WhereNoRemark ⊥) }
     ensures beginning { IfErr result (WhereWrite (WritesBeginning Standard (needs_graph options.show) (IsShown options.show)
         (S.remaining source.old) (S.remaining source.new) (S.ended source.new) (K.contents sink.old) (K.contents sink.new))) }

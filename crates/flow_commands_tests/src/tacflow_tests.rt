@@ -560,6 +560,10 @@ const OTHER_FAULTS: &[(Fault, &str)] = &[
         "tacflow: refusal 22: TooManyBits\n",
     ),
     (Fault::NoProcedure, "tacflow: no such procedure\n"),
+    (
+        Fault::LargeProcedure,
+        "tacflow: the procedure is too large\n",
+    ),
     (Fault::OutOfMemory, "tacflow: out of memory\n"),
     (Fault::Read, "tacflow: read fault\n"),
     (Fault::Write, "tacflow: write fault\n"),

@@ -2,6 +2,7 @@ pub mod Askable
 pub mod Between
 pub mod Doubting
 pub mod Keyed
+pub mod Lined
 pub mod Pictured
 pub mod Placed
 pub mod Putting

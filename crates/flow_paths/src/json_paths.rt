@@ -1,6 +1,7 @@
 // Lines of JSON with paths and with what stands around remarks.
 
 ghost use Rattle.std.specs.Prelude.{◌≡◌, ◌<◌, ◌++◌, All, codes, flat_map, length, map, IfOk, IfSome};
+ghost use Rattle.doubt_origins.specs.Origins.{origins_in};
 ghost use Rattle.flow_graph.specs.Points.{point_count};
 ghost use Rattle.report_answers.specs.code.Reported.{TellReport};
 ghost use Rattle.flow_views.specs.ViewTables.{AreViewTables};
@@ -8,10 +9,12 @@ ghost use Rattle.flow_views.specs.code.ViewProgram.{AreShown, known_of};
 ghost use Rattle.flow_views.specs.declared.names.NameForm.TheVariants.{Quoted};
 ghost use Rattle.flow_views.specs.Json.{array, boolean, edge_object};
 ghost use Rattle.flow_paths.specs.Doubts.{doubt_line};
-ghost use Rattle.flow_paths.specs.Paths.{IsJsonWithPaths, hop_object, lines_with, path_field, remark_with_path};
+ghost use Rattle.flow_paths.specs.Paths.{IsJsonWithPaths, hop_object, path_field, remark_with_path};
 ghost use Rattle.flow_paths.specs.Sets.{names, number_or_null, numbers, set_fields};
 ghost use Rattle.flow_paths.specs.code.Arounds.{around_at, sets_of};
+ghost use Rattle.flow_paths.specs.code.Lined.{first_line, rest_with};
 ghost use Rattle.flow_paths.specs.code.UnsetPaths.{AreWitnessesOf, hops_at};
+ghost use Rattle.source_lines.specs.SourceLines.{all_of_lined};
 ghost use Rattle.text_pieces.specs.Pieces.{CanWrite, Writes};
 
 use crate::OutOfMemory;
@@ -25,16 +28,20 @@ use crate::set_fields::{
 };
 use crate::surroundings::{Surroundings, surroundings_of};
 use crate::unset_paths::UnsetPaths;
+use doubt_origins::doubt_origins;
 use flow_graph::Graph;
 use flow_reports::{Findings, Remark, RemarkForm};
 use flow_texts::{line, write_number};
 use flow_views::{NameForm, View, ViewProgram, ViewTables};
-use json_texts::{write_end, write_json, write_json_changes, write_remark_head};
+use json_texts::{
+    write_differences, write_end, write_named_program, write_program, write_remark_head, write_sets,
+};
 use report_answers::ReportAnswers;
+use source_lines::LinedText;
 use std::alloc::Global;
 use std::marker::Model;
 use tac_program::Program;
-use text_pieces::{Pieces, Sink, Text};
+use text_pieces::{Pieces, Sink};
 
 // Writes what stands around a line that is never reached.
 fn write_last_reached<K: Sink>(out: &mut Pieces<'_, K>, facts: &Facts<'_>)
@@ -152,9 +159,24 @@ impl RemarkForm for PathLine<'_> {
     }
 }
 
-// Writes the lines but for doubts and the last one, with sets or with differences.
+// Writes the first line, with names of bits or without.
+fn write_first_line<K: Sink>(shown: &ViewProgram<'_>, changes: bool, out: &mut Pieces<'_, K>)
+    requires ready { CanWrite K.Sink out.old }
+    requires shown { AreShown shown.now }
+    requires form { shown.now.names.form ≡ Quoted }
+    ensures { Writes K.Sink out.old out.new (first_line changes shown.now.found.graph.now) }
+{
+    if changes {
+        write_named_program(shown, out);
+    } else {
+        write_program(out, shown.found.graph);
+    }
+}
+
+// Writes the lines but for the first, doubts and the last one, with sets or with differences.
 fn write_lines<K: Sink>(
     shown: &ViewProgram<'_>,
+    origins: &[Option<u32>],
     form: &PathLine<'_>,
     changes: bool,
     out: &mut Pieces<'_, K>,
@@ -162,14 +184,14 @@ fn write_lines<K: Sink>(
     requires ready { CanWrite K.Sink out.old }
     requires shown { AreShown shown.now }
     requires form { shown.now.names.form ≡ Quoted }
-    ensures { Writes K.Sink out.old out.new (lines_with changes
+    ensures { Writes K.Sink out.old out.new (rest_with changes (origins_in origins.now)
         (remark_with_path (hops_at form.now.paths.now) (sets_of (around_at form.now.arounds.now)))
         shown.now.found.graph.now (known_of shown.now) shown.now.view) }
 {
     if changes {
-        write_json_changes(shown, form, out);
+        write_differences(shown, origins, form, out);
     } else {
-        write_json(shown, form, out);
+        write_sets(shown, form, out);
     }
 }
 
@@ -201,24 +223,30 @@ fn write_lines<K: Sink>(
 pub struct JsonPathsText<'a> {
     graph: &'a Graph<'a>,
     changes: bool,
+    origins: Vec<Option<u32>>,
     shown: ViewProgram<'a>,
     paths: UnsetPaths,
     around: Surroundings,
 }
 
 impl<'a> Model for JsonPathsText<'a> {
-    ghost use Rattle.std.specs.Prelude.{◌≡◌, ◌<◌, All, List, ℕ};
+    ghost use Rattle.std.specs.Prelude.{◌≡◌, ◌<◌, All};
+    ghost use Rattle.doubt_origins.specs.Origins.{origins_in};
     ghost use Rattle.flow_graph.specs.Points.{point_count};
     ghost use Rattle.flow_views.specs.code.ViewProgram.{AreShown, known_of};
     ghost use Rattle.flow_views.specs.declared.names.NameForm.TheVariants.{Quoted};
-    ghost use Rattle.flow_paths.specs.Paths.{json_with_paths};
     ghost use Rattle.flow_paths.specs.code.Arounds.{around_at, sets_of};
+    ghost use Rattle.flow_paths.specs.code.Lined.{first_line, path_lines};
     ghost use Rattle.flow_paths.specs.code.UnsetPaths.{hops_at};
+    ghost use Rattle.source_lines.specs.SourceLines.{Lined};
 
-    ghost Value = { List ℕ };
+    ghost Value = { Lined };
 
-    ghost view = { λ text. json_with_paths text.changes (hops_at text.paths) (sets_of (around_at text.around.arounds)) text.around.doubts.items
-        text.shown.found.graph.now (known_of text.shown) text.shown.view };
+    ghost view = { λ text. record {
+      first = first_line text.changes text.shown.found.graph.now;
+      others = path_lines text.changes (origins_in text.origins.items) (hops_at text.paths) (sets_of (around_at text.around.arounds))
+          text.around.doubts.items text.shown.found.graph.now (known_of text.shown) text.shown.view;
+    } };
 
     ghost invariant = { λ text. AreShown text.shown × (text.shown.names.form ≡ Quoted) × (text.shown.found.graph.now ≡ text.graph.now)
         × All (λ doubt. doubt.point < point_count text.graph.now) text.around.doubts.items };
@@ -230,6 +258,7 @@ impl Drop for JsonPathsText<'_> {
         let JsonPathsText {
             graph: _,
             changes: _,
+            origins: _,
             shown: _,
             paths: _,
             around: _,
@@ -296,14 +325,17 @@ impl<'a> JsonPathsText<'a> {
         requires tables { AreViewTables graph.now view tables.now }
         requires answers { TellReport graph.now answers.now }
         requires procedure { IfSome view.procedure (λ procedure. procedure < length graph.now.procedure_names) }
-        ensures { IfOk result (IsJsonWithPaths changes graph.now view) }
+        ensures first { IfOk result (λ lined. lined.first ≡ first_line changes graph.now) }
+        ensures lines { IfOk result (λ lined. IsJsonWithPaths changes graph.now view (all_of_lined lined)) }
     {
+        let origins = doubt_origins(alloc, graph, answers)?;
         let shown = ViewProgram::of(alloc, graph, tables, answers, view, NameForm::Quoted)?;
         let paths = paths_shown(alloc, graph, &shown)?;
         let around = surroundings_of(alloc, graph, answers, view)?;
         Ok(JsonPathsText {
             graph,
             changes,
+            origins,
             shown,
             paths,
             around,
@@ -311,15 +343,27 @@ impl<'a> JsonPathsText<'a> {
     }
 }
 
-impl<'a> Text for JsonPathsText<'a> {
-    ghost bytes = { λ text. text };
+impl<'a> LinedText for JsonPathsText<'a> {
+    ghost first = { λ lined. lined.first };
 
-    fn write<K: Sink>(&self, out: &mut Pieces<'_, K>) {
+    ghost others = { λ lined. lined.others };
+
+    fn write_first<K: Sink>(&self, out: &mut Pieces<'_, K>) {
+        write_first_line(&self.shown, self.changes, out);
+    }
+
+    fn write_others<K: Sink>(&self, out: &mut Pieces<'_, K>) {
         let form = PathLine {
             paths: &self.paths,
             arounds: &self.around.arounds,
         };
-        write_lines(&self.shown, &form, self.changes, out);
+        write_lines(
+            &self.shown,
+            self.origins.as_slice(),
+            &form,
+            self.changes,
+            out,
+        );
         write_doubts(out, self.graph, &self.around.doubts);
         write_end(&self.shown, out);
     }

@@ -40,6 +40,7 @@ abbrev pub fault_text : Fault → List ℕ
 fault_text (fault.Refused r) = refusal_text r
 fault_text (fault.Graph f) = graph_text f
 fault_text fault.NoProcedure = codes "no such procedure"
+fault_text fault.LargeProcedure = codes "the procedure is too large"
 fault_text fault.NoRemark = codes "no such remark"
 fault_text fault.OutOfMemory = codes "out of memory"
 fault_text fault.Read = codes "read fault"

@@ -22,6 +22,11 @@ abbrev pub WhereNoProcedure : Type 0 → Fault → Type 0
 WhereNoProcedure P fault.NoProcedure = P
 WhereNoProcedure P _ = Unit {0}
 
+-- A fact where the fault is that a procedure is too large.
+abbrev pub WhereLargeProcedure : Type 0 → Fault → Type 0
+WhereLargeProcedure P fault.LargeProcedure = P
+WhereLargeProcedure P _ = Unit {0}
+
 -- A fact where the fault is that a remark is not there.
 abbrev pub WhereNoRemark : Type 0 → Fault → Type 0
 WhereNoRemark P fault.NoRemark = P
@@ -47,14 +52,19 @@ write_faults_in (Err fault.Write) = 1
 write_faults_in _ = 0
 
 -- The fault tells of no text and no source: memory was refused, a fact of the cause holds for which there is no graph, a fact where a
--- procedure is not there, another where a remark is not, or the sink had a fault.
+-- procedure is not there, another where a remark is not, a third where a procedure is too large, or the sink had a fault.
+abbrev pub OfProcedure : (GraphFault → Type 0) → Type 0 → Type 0 → Type 0 → Fault → Type 0
+OfProcedure P Q R S (fault.Graph f) = P f
+OfProcedure P Q R S fault.NoProcedure = Q
+OfProcedure P Q R S fault.NoRemark = R
+OfProcedure P Q R S fault.LargeProcedure = S
+OfProcedure P Q R S fault.OutOfMemory = Unit {0}
+OfProcedure P Q R S fault.Write = Unit {0}
+OfProcedure P Q R S _ = ⊥
+
+-- the same where no procedure is too large
 abbrev pub OfProgram : (GraphFault → Type 0) → Type 0 → Type 0 → Fault → Type 0
-OfProgram P Q R (fault.Graph f) = P f
-OfProgram P Q R fault.NoProcedure = Q
-OfProgram P Q R fault.NoRemark = R
-OfProgram P Q R fault.OutOfMemory = Unit {0}
-OfProgram P Q R fault.Write = Unit {0}
-OfProgram P Q R _ = ⊥
+OfProgram P Q R = OfProcedure P Q R ⊥
 
 -- Of an answer to the wish to write a text of a kind: at Ok such a text was written, at a fault of the sink a beginning of one, and
 -- at every other fault nothing.

@@ -40,7 +40,7 @@ pub record HasNoGraph (limits : Limits) (is_needed : Bool) (text : List ℕ) (ca
   pub needed : is_needed ≡ true
   pub over : IsOverLimit limits (program_of text) cause
 
--- The text is a program that has not what is asked for: a procedure, or a remark.
+-- The text is a program that has not what is asked for: a procedure, one that is small enough, or a remark.
 pub record Lacking (limits : Limits) (Lacks : Program → Type 0) (text : List ℕ) : Type 0 where
   pub faultless : refusal_within limits text ≡ None
   pub lacks : Lacks (program_of text)

@@ -4,7 +4,8 @@ ghost use Rattle.std.specs.Prelude.{◌≡◌, ◌<◌, ◌+◌, ◌-◌, ◌^�
 ghost use Rattle.tac_reader.specs.Faults.{refusal_within};
 ghost use Rattle.tac_reader.specs.Parses.{program_of};
 ghost use Rattle.tac_reader.specs.code.ReadFaults.{IfRefused};
-ghost use Rattle.flow_runs.specs.Faults.{Delivers, WhereNoGraph, WhereNoProcedure, WhereNoRemark, WhereRefused, read_faults_in, write_faults_in};
+ghost use Rattle.flow_runs.specs.Faults.{Delivers, WhereLargeProcedure, WhereNoGraph, WhereNoProcedure, WhereNoRemark, WhereRefused};
+ghost use Rattle.flow_runs.specs.Faults.{read_faults_in, write_faults_in};
 ghost use Rattle.flow_runs.specs.Runs.{HasNoGraph, Lacking, Outputs};
 
 use crate::fault::Fault;
@@ -65,6 +66,7 @@ pub(crate) fn answer<R: Threads + Sync, K: Sink, W: Output>(
     ensures refused { IfErr result (WhereRefused (λ r. refusal_within (W.limits output.now) text.items ≡ Some r)) }
     ensures no_graph { IfErr result (WhereNoGraph (HasNoGraph (W.limits output.now) (W.needs_graph output.now) text.items)) }
     ensures no_procedure { IfErr result (WhereNoProcedure (Lacking (W.limits output.now) (W.lacks output.now) text.items)) }
+    ensures large { IfErr result (WhereLargeProcedure (Lacking (W.limits output.now) (W.exceeds output.now) text.items)) }
     ensures no_remark { IfErr result (WhereNoRemark (Lacking (W.limits output.now) (W.lacks_remark output.now) text.items)) }
     ensures no_read { read_faults_in result ≡ 0 }
     ensures faults { K.faults sink.new ≡ K.faults sink.old + write_faults_in result }

@@ -51,7 +51,7 @@ pub fn sizes<'a>() -> [PossibleValue<'a>; 2]
             "A text of 1,048,576 bytes, 256 procedures, 16,384 points, 4,096 bits in each analysis",
         ),
         PossibleValue::new("large").help(
-            "A text of 67,108,864 bytes, 16,384 procedures, 1,048,576 points, 131,072 variables, as many expressions",
+            "A text of 536,870,912 bytes, 262,144 procedures, 16,777,216 points, 4,194,304 variables, as many expressions",
         ),
     ]
 }

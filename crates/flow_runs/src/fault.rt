@@ -21,6 +21,9 @@ pub enum Fault {
     /// The program has no procedure of the name that was asked for. Nothing was written.
     #[error("no such procedure")]
     NoProcedure,
+    /// The procedure that was asked for has too many points for what is to be shown of it. Nothing was written.
+    #[error("the procedure is too large")]
+    LargeProcedure,
     /// The program has no remark where one was asked for. Nothing was written.
     #[error("no such remark")]
     NoRemark,
@@ -97,6 +100,7 @@ fn fault_end(alloc: Global, fault: &Fault) -> Result<Vec<u8>, OutOfMemory>
         Fault::Graph(GraphFault::TooManyBits) => b": refusal 22: TooManyBits\n",
         Fault::Graph(GraphFault::OutOfMemory) => b": out of memory\n",
         Fault::NoProcedure => b": no such procedure\n",
+        Fault::LargeProcedure => b": the procedure is too large\n",
         Fault::NoRemark => b": no such remark\n",
         Fault::OutOfMemory => b": out of memory\n",
         Fault::Read => b": read fault\n",

@@ -4,7 +4,7 @@ ghost use Rattle.std.specs.Prelude.{◌≡◌, ◌<◌, ◌+◌, ◌-◌, ◌^�
 ghost use Rattle.std.specs.Thread.{IsSync};
 ghost use Rattle.tac_program.specs.Programs.{Program as SourceProgram};
 ghost use Rattle.tac_program.specs.declared.limits.Limits.{Limits as LimitsValue};
-ghost use Rattle.flow_runs.specs.Faults.{Delivers, OfProgram, WhereNoGraph, write_faults_in};
+ghost use Rattle.flow_runs.specs.Faults.{Delivers, OfProcedure, WhereNoGraph, write_faults_in};
 ghost use Rattle.flow_runs.specs.Runs.{HasItsGraph, IsOverLimit};
 
 use crate::OutOfMemory;
@@ -31,6 +31,9 @@ pub trait Output {
     // The program has not the procedure that is asked for.
     ghost lacks: { Self → SourceProgram → Type 0 };
 
+    // The procedure that is asked for has too many points for what is to be shown of it.
+    ghost exceeds: { Self → SourceProgram → Type 0 };
+
     // The program has not the remark that is asked for.
     ghost lacks_remark: { Self → SourceProgram → Type 0 };
 
@@ -48,7 +51,8 @@ pub trait Output {
     /// The condition: the sink's count of faults is below `u32::MAX`.
     ///
     /// - `Graph`: a graph is needed, and the program has too many points or bits.
-    /// - `NoProcedure`: the program has not the procedure that is asked for. `NoRemark`: it has not the remark that is.
+    /// - `NoProcedure`: the program has not the procedure that is asked for. `LargeProcedure`: that has too many points for what is to be shown
+    ///   of it. `NoRemark`: the program has not the remark that is asked for.
     /// - `OutOfMemory`: memory was refused.
     /// - `Write`: a push or the flush was answered by a fault; a beginning of what is to be shown was pushed. After every other
     ///   fault nothing was.
@@ -65,8 +69,8 @@ pub trait Output {
         ensures delivers { Delivers (λ out. HasItsGraph (limits self.now) (needs_graph self.now) program.now × is_output self.now mark.now program.now out)
             (K.contents sink.old) (K.contents sink.new) result }
         ensures flushed { OnOk result (K.flushed sink.new ≡ true) }
-        ensures fault { IfErr result (OfProgram (IsOverLimit (limits self.now) program.now) (lacks self.now program.now)
-            (lacks_remark self.now program.now)) }
+        ensures fault { IfErr result (OfProcedure (IsOverLimit (limits self.now) program.now) (lacks self.now program.now)
+            (lacks_remark self.now program.now) (exceeds self.now program.now)) }
         ensures needed { IfErr result (WhereNoGraph (λ _. needs_graph self.now ≡ true)) }
         ensures faults { K.faults sink.new ≡ K.faults sink.old + write_faults_in result };
 }

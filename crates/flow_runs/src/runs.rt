@@ -2,7 +2,7 @@
 
 ghost use Rattle.std.specs.Prelude.{◌≡◌, ◌<◌, ◌+◌, ◌-◌, ◌^◌, true, false, IfErr, OnOk};
 ghost use Rattle.std.specs.Io.KnownBytes.{Keeps};
-ghost use Rattle.flow_runs.specs.Faults.{UnlessWrite, WhereNoGraph, WhereNoProcedure, WhereNoRemark};
+ghost use Rattle.flow_runs.specs.Faults.{UnlessWrite, WhereLargeProcedure, WhereNoGraph, WhereNoProcedure, WhereNoRemark};
 ghost use Rattle.flow_runs.specs.Faults.{WhereRefused, WhereWrite, read_faults_in, write_faults_in};
 ghost use Rattle.flow_runs.specs.Runs.{PullsLacking, PullsOverLimit, PullsRefused, WritesAnswerOf, WritesBeginningOf};
 
@@ -20,7 +20,8 @@ use text_pieces::{Sink, Source};
 /// The condition: the source has not ended, and both counts of faults are below `u32::MAX`.
 ///
 /// - `Refused`: the text is no program. `Graph`: it is one, but has too many points (21) or bits (22) for what is to be shown.
-///   `NoProcedure`: it is one, but has not the procedure that is asked for. `NoRemark`: it has not the remark that is.
+///   `NoProcedure`: it is one, but has not the procedure that is asked for. `LargeProcedure`: that has too many points for what is to be
+///   shown of it. `NoRemark`: it has not the remark that is asked for.
 /// - `OutOfMemory`: memory was refused.
 /// - `Read`: a pull was answered by a fault. `Write`: a push or the flush was; a beginning of what
 ///   is to be shown was pushed. After every other fault nothing was.
@@ -43,6 +44,8 @@ pub fn run<R: Threads + Sync, S: Source, K: Sink, W: Output>(
     ensures no_graph { IfErr result (WhereNoGraph (PullsOverLimit (W.limits output.now) (W.needs_graph output.now)
         (S.remaining source.old) (S.remaining source.new) (S.ended source.new))) }
     ensures no_procedure { IfErr result (WhereNoProcedure (PullsLacking (W.limits output.now) (W.lacks output.now)
+        (S.remaining source.old) (S.remaining source.new) (S.ended source.new))) }
+    ensures large { IfErr result (WhereLargeProcedure (PullsLacking (W.limits output.now) (W.exceeds output.now)
         (S.remaining source.old) (S.remaining source.new) (S.ended source.new))) }
     ensures no_remark { IfErr result (WhereNoRemark (PullsLacking (W.limits output.now) (W.lacks_remark output.now)
         (S.remaining source.old) (S.remaining source.new) (S.ended source.new))) }

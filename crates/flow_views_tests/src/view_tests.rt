@@ -6,6 +6,7 @@ use flow_team::{OpenGate, Team};
 use flow_views::{Chosen, Look, View, ViewTables};
 use json_texts::JsonText;
 use report_answers::ReportAnswers;
+use source_lines::SourcedText;
 use std::alloc::Global;
 use std::process::Abort;
 use std::test::Fail;
@@ -55,7 +56,11 @@ fn write_graph<R: Threads + Sync>(
             Ok(deliver(alloc, &text, &mut sink).is_ok())
         },
         Format::Json => {
-            let text = JsonText::of(alloc, graph, &tables, &answers, view)?;
+            let lines = JsonText::of(alloc, graph, &tables, &answers, view)?;
+            let text = SourcedText {
+                source: b"",
+                lines: &lines,
+            };
             Ok(deliver(alloc, &text, &mut sink).is_ok())
         },
     }

@@ -1,7 +1,9 @@
 -- Lines of JSON whose facts are differences: at each point the numbers of the bits that came and that went against the point before it in
 -- its procedure, and of those that come and go through its statement. What the bits are called stands in the first line, once.
-use Rattle.std.specs.Prelude.{◌≡◌, ℕ, Bool, List, [], ◌∷◌, ◌++◌, map, flat_map, filter, length, if◌then◌else◌, codes, decimal}
+use Rattle.std.specs.Prelude.{◌≡◌, ℕ, Bool, List, [], ◌∷◌, ◌++◌, map, flat_map, filter, length, Option, Some, None, if◌then◌else◌, codes, decimal}
 use Rattle.std.specs.List.{range_with_len}
+use Rattle.doubt_origins.specs.Origins.{AreOrigins}
+use Rattle.flow_graph.specs.Edges.{edges_from}
 use Rattle.flow_graph.specs.Points.{place_of, point_count, procedure_at}
 use Rattle.flow_graph.specs.Universes.{bits, definitions, expressions}
 use Rattle.flow_graph.specs.declared.analysis.Analysis.{Analysis}
@@ -11,8 +13,8 @@ use Rattle.flow_reports.specs.declared.remark.Remark.{Remark}
 use Rattle.flow_reports.specs.declared.remark.Remark.TheVariants.{NeverReached, Unset, Computed, VeryBusy, Dead}
 use Rattle.flow_team.specs.Tables.{Facts}
 use Rattle.flow_texts.specs.Tables.{bit_text}
-use Rattle.flow_views.specs.Json.{array, boolean, end_line, point_parts, remark_object, span_fields}
-use Rattle.flow_views.specs.Views.{analysis_name, chosen_analyses, known_facts, procedure_name, shown_points}
+use Rattle.flow_views.specs.Json.{array, boolean, end_line, point_edge, remark_object, span_fields, statement_field}
+use Rattle.flow_views.specs.Views.{analysis_name, chosen_analyses, known_facts, label_name, labels_at, procedure_name, shown_points}
 use Rattle.flow_views.specs.declared.view.Chosen.{Chosen}
 use Rattle.flow_views.specs.declared.view.View.{View}
 use Rattle.json_statements.specs.Parts.{definition_object, expression_object, parts_fields}
@@ -58,6 +60,19 @@ program_head program =
     ++ codes ",\"definitions\":" ++ decimal (length (definitions program))
     ++ codes ",\"expressions\":" ++ decimal (length (expressions program))
 
+-- where the doubt of a point comes from; null where it is not doubtful
+abbrev pub leads_to_field : Option ℕ → List ℕ
+leads_to_field (Some origin) = codes ",\"leads_to\":" ++ decimal origin
+leads_to_field None = codes ",\"leads_to\":null"
+
+-- the labels of a point, its statement, whether it is doubtful and where that comes from, and its edges
+abbrev pub doubted_parts : Option ℕ → Program → Knowledge → ℕ → List ℕ
+doubted_parts origin program known point =
+    codes ",\"labels\":" ++ array (map (λ label. quoted (label_name program point label)) (labels_at program point))
+    ++ codes ",\"statement\":" ++ statement_field program point
+    ++ codes ",\"doubtful\":" ++ boolean (known.doubtful point) ++ leads_to_field origin
+    ++ codes ",\"edges\":" ++ array (map (point_edge program) (edges_from program point))
+
 -- the line of the program, with what its definitions and expressions are called, and their parts
 abbrev pub named_program_line : Program → List ℕ
 named_program_line program =
@@ -66,12 +81,12 @@ named_program_line program =
     ++ codes ",\"definition_parts\":" ++ array (map definition_object (definitions program))
     ++ codes ",\"expression_parts\":" ++ array (map expression_object (expressions program)) ++ codes "}\n"
 
-abbrev pub changed_point_line : Program → Knowledge → Chosen → ℕ → List ℕ
-changed_point_line program known chosen point =
+abbrev pub changed_point_line : (ℕ → Option ℕ) → Program → Knowledge → Chosen → ℕ → List ℕ
+changed_point_line origins program known chosen point =
     codes "{\"type\":\"point\",\"point\":" ++ decimal point
     ++ codes ",\"procedure\":" ++ quoted (procedure_name program (procedure_at program point))
     ++ codes ",\"place\":" ++ decimal (place_of program point).place
-    ++ span_fields program point ++ point_parts program known point ++ parts_fields program point
+    ++ span_fields program point ++ doubted_parts (origins point) program known point ++ parts_fields program point
     ++ flat_map (changes_field program known point) (chosen_analyses chosen) ++ codes "}\n"
 
 -- A remark in a line of its own; where the facts of very busy expressions are shown, those of a point stand in one line.
@@ -106,18 +121,20 @@ changed_remarks program known chosen point =
     ++ (if chosen.busy then busy_line program point (flat_map very_busy (remarks_at program known point)) else [])
 
 -- the lines but for the last, with the remarks in a form of their own, each in its own line
-abbrev pub changes_with : (Program → ℕ → Remark → List ℕ) → Program → Knowledge → View → List ℕ
-changes_with object program known view =
-    named_program_line program ++ flat_map (changed_point_line program known view.facts) (shown_points program view)
+abbrev pub changes_with : (ℕ → Option ℕ) → (Program → ℕ → Remark → List ℕ) → Program → Knowledge → View → List ℕ
+changes_with origins object program known view =
+    named_program_line program ++ flat_map (changed_point_line origins program known view.facts) (shown_points program view)
     ++ flat_map (λ point. flat_map (object program point) (remarks_at program known point)) (shown_points program view)
 
-abbrev pub json_changes : Program → Knowledge → View → List ℕ
-json_changes program known view =
-    named_program_line program ++ flat_map (changed_point_line program known view.facts) (shown_points program view)
+abbrev pub json_changes : (ℕ → Option ℕ) → Program → Knowledge → View → List ℕ
+json_changes origins program known view =
+    named_program_line program ++ flat_map (changed_point_line origins program known view.facts) (shown_points program view)
     ++ flat_map (changed_remarks program known view.facts) (shown_points program view) ++ end_line program view
 
--- The text tells the meets over all valid paths, by what changes from point to point.
+-- The text tells the meets over all valid paths, by what changes from point to point, and of each doubtful point where its doubt comes from.
 pub record IsJsonChanges (program : Program) (view : View) (text : List ℕ) : Type 0 where
   pub known : Knowledge
   pub is_known : IsKnowledge program known
-  pub is_text : text ≡ json_changes program known view
+  pub origins : ℕ → Option ℕ
+  pub are_origins : AreOrigins program origins
+  pub is_text : text ≡ json_changes origins program known view

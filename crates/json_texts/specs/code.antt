@@ -1,2 +1,3 @@
+pub mod Lined
 pub mod Outlines
 pub mod Tells

@@ -2,6 +2,7 @@
 
 ghost use Rattle.std.specs.Prelude.{◌≡◌, ℕ, ◌<◌, ◌≤◌, ◌&&◌, [], codes, filter, map, flat_map, length, true, IfOk, IfSome, if◌then◌else◌};
 ghost use Rattle.std.specs.List.{range_with_len};
+ghost use Rattle.doubt_origins.specs.Origins.{origins_in};
 ghost use Rattle.flow_graph.specs.Points.{point_count};
 ghost use Rattle.flow_graph.specs.declared.analysis.Analysis.TheVariants.{Busy};
 ghost use Rattle.flow_reports.specs.Reports.{remarks_at};
@@ -15,8 +16,11 @@ ghost use Rattle.flow_views.specs.Views.{analysis_if, chosen_analyses, is_chosen
 ghost use Rattle.flow_views.specs.code.ViewProgram.{AreShown, IsShownPoint, IsShownTable, known_of};
 ghost use Rattle.flow_views.specs.declared.names.NameForm.TheVariants.{Quoted};
 ghost use Rattle.json_texts.specs.Changes.{IsJsonChanges, behind_changes, busy_line, busy_object, change_fields, changed_point_line, changed_remarks};
-ghost use Rattle.json_texts.specs.Changes.{changes_field, changes_with, named_program_line, names_field, remark_alone, very_busy};
+ghost use Rattle.json_texts.specs.Changes.{changes_field, doubted_parts, leads_to_field, named_program_line, names_field, remark_alone};
+ghost use Rattle.json_texts.specs.Changes.{very_busy};
+ghost use Rattle.json_texts.specs.code.Lined.{differences_with};
 ghost use Rattle.json_texts.specs.code.Tells.{tells_busy, tests_at};
+ghost use Rattle.source_lines.specs.SourceLines.{all_of_lined};
 ghost use Rattle.point_sets.specs.Changes.{set_ahead};
 ghost use Rattle.point_sets.specs.Sets.{behind, has_behind};
 ghost use Rattle.point_sets.specs.code.Changes.{IsChange, old_set, told_by};
@@ -26,8 +30,12 @@ ghost use Rattle.tac_program.specs.Programs.{Program};
 
 use crate::OutOfMemory;
 use crate::differences::write_changed;
-use crate::json::{JsonLine, JsonRemarks, write_array, write_end, write_point_parts};
-use crate::outlines::{write_boolean, write_place, write_point_place, write_program_head};
+use crate::json::{JsonLine, JsonRemarks, write_array, write_end};
+use crate::outlines::{
+    PointOutline, write_boolean, write_edges_out, write_place, write_point_front,
+    write_point_place, write_program_head,
+};
+use doubt_origins::{doubt_origins, origin_at};
 use flow_graph::{Analysis, Graph};
 use flow_reports::{Findings, Remark, RemarkForm};
 use flow_team::Table;
@@ -36,10 +44,11 @@ use flow_views::{NameForm, PointForm, View, ViewProgram, ViewTables, analysis_na
 use json_statements::{write_definitions, write_expressions, write_parts_fields};
 use point_sets::{Change, Side, has_behind};
 use report_answers::ReportAnswers;
+use source_lines::LinedText;
 use std::alloc::Global;
 use std::marker::Model;
 use tac_program::StmtKind;
-use text_pieces::{Pieces, Sink, Text, TextBlock};
+use text_pieces::{Pieces, Sink, TextBlock};
 
 // Writes what came and what went.
 fn write_change<K: Sink>(shown: &ViewProgram<'_>, out: &mut Pieces<'_, K>, change: &Change<'_>)
@@ -420,14 +429,55 @@ impl RemarkForm for AloneLine {
     }
 }
 
-// A point as a line.
-#[derive(Clone, Copy)]
-struct ChangedPoints;
+// Writes where the doubt of a point comes from.
+fn write_leads_to<K: Sink>(out: &mut Pieces<'_, K>, origin: Option<u32>)
+    requires { CanWrite K.Sink out.old }
+    ensures { Writes K.Sink out.old out.new (leads_to_field origin) }
+{
+    match origin {
+        Some(origin) => {
+            out.write(b",\"leads_to\":");
+            write_number(out, origin);
+        },
+        None => out.write(b",\"leads_to\":null"),
+    }
+}
 
-impl PointForm for ChangedPoints {
+// Writes the labels of a point, its statement, whether it is doubtful and where that comes from, and its edges.
+fn write_doubted_parts<K: Sink>(
+    shown: &ViewProgram<'_>,
+    out: &mut Pieces<'_, K>,
+    point: u32,
+    origin: Option<u32>,
+)
+    requires ready { CanWrite K.Sink out.old }
+    requires shown { AreShown shown.now }
+    requires point { point < point_count shown.now.found.graph.now }
+    ensures { Writes K.Sink out.old out.new (doubted_parts origin shown.now.found.graph.now (known_of shown.now) point) }
+{
+    let outline = PointOutline {
+        graph: shown.found.graph,
+        point,
+        edges: shown.edges(point),
+        doubtful: shown.is_doubtful(point),
+    };
+    write_point_front(out, &outline);
+    write_leads_to(out, origin);
+    out.write(b",\"edges\":");
+    write_edges_out(out, &outline);
+}
+
+// A point as a line, with where the doubt of each point comes from.
+#[derive(Clone, Copy)]
+struct ChangedPoints<'o> {
+    origins: &'o [Option<u32>],
+}
+
+impl PointForm for ChangedPoints<'_> {
     ghost name_form = { λ _. Quoted };
 
-    ghost text = { λ _ shown point. changed_point_line shown.found.graph.now (known_of shown) shown.view.facts point };
+    ghost text = { λ form shown point.
+        changed_point_line (origins_in form.origins.now) shown.found.graph.now (known_of shown) shown.view.facts point };
 
     fn write_point<K: Sink>(&self, out: &mut Pieces<'_, K>, shown: &ViewProgram<'_>, point: u32) {
         if out.has_failed() {
@@ -435,7 +485,7 @@ impl PointForm for ChangedPoints {
         }
         write_point_place(out, shown.found.graph, point);
         write_place(out, shown.found.graph, point);
-        write_point_parts(shown, out, point);
+        write_doubted_parts(shown, out, point, origin_at(self.origins, point));
         write_parts_fields(out, shown.found.graph, point);
         write_changes_fields(shown, out, point);
         out.write(b"}\n");
@@ -463,21 +513,24 @@ impl PointForm for ChangedRemarks {
     }
 }
 
-/// Writes the lines of JSON with differences but for the last, each remark in a line in a form of its own.
+/// Writes the lines of JSON with differences but for the first and the last, each remark in a line in a form of its own.
+///
+/// Beside each point stands where its doubt comes from (`doubt_origins`).
 ///
 /// The conditions: it is one program that is shown, and the names of its bits are quoted.
-pub fn write_json_changes<F: RemarkForm, K: Sink>(
+pub fn write_differences<F: RemarkForm, K: Sink>(
     shown: &ViewProgram<'_>,
+    origins: &[Option<u32>],
     form: &F,
     out: &mut Pieces<'_, K>,
 )
     requires ready { CanWrite K.Sink out.old }
     requires shown { AreShown shown.now }
     requires form { shown.now.names.form ≡ Quoted }
-    ensures { Writes K.Sink out.old out.new (changes_with (F.text form.now) shown.now.found.graph.now (known_of shown.now) shown.now.view) }
+    ensures { Writes K.Sink out.old out.new
+        (differences_with (origins_in origins.now) (F.text form.now) shown.now.found.graph.now (known_of shown.now) shown.now.view) }
 {
-    write_named_program(shown, out);
-    shown.write_all_points(&ChangedPoints, out);
+    shown.write_all_points(&ChangedPoints { origins }, out);
     shown.write_all_points(&JsonRemarks { form }, out);
 }
 
@@ -488,12 +541,14 @@ pub fn write_json_changes<F: RemarkForm, K: Sink>(
 ///      "definition_parts":[{"variable":0,"point":null},{"variable":1,"point":null},{"variable":0,"point":0}],
 ///      "expression_parts":[{"operator":"+","operands":[{"variable":0},{"variable":1}]}]}
 ///     {"type":"point","point":0,"procedure":"main","place":0,"line":2,"first":11,"last":19,"labels":[],"statement":"x = x + y",
-///      "doubtful":false,"edges":[{"kind":"step","to":1}],
+///      "doubtful":false,"leads_to":null,"edges":[{"kind":"step","to":1}],
 ///      "parts":{"kind":"binary","target":0,"operator":"+","operands":[{"variable":0},{"variable":1}]},"start":10,"end":19,
 ///      "reach":{"path":true,"came":[0,1],"went":[],"behind":{"came":[2],"went":[0]}}}
 ///
 /// - The first line has the names of all definitions and expressions, in the order of their numbers, and what they are made of: variables
 ///   and points by number, and no point of a definition that stands for the value at the beginning.
+/// - `leads_to` is null where the point is not doubtful, else a point to which some path leads from it, and from which no valid path leads to
+///   the end of `main`.
 /// - `parts` is what the statement is made of, likewise; where a jump leads `edges` tell. `start` and `end` are its bytes in the text, from 0,
 ///   the first and the one behind the last. At a procedure's end they are null.
 /// - `came` and `went` are the numbers of the bits that hold there and did not at the point before in the same procedure, and of those that
@@ -505,18 +560,25 @@ pub fn write_json_changes<F: RemarkForm, K: Sink>(
 /// Else it is as [`JsonText`](crate::JsonText) says. The work grows with the bits of the chosen analyses at each point.
 #[derive(Drop)]
 pub struct JsonChangesText<'a> {
+    origins: Vec<Option<u32>>,
     shown: ViewProgram<'a>,
 }
 
 impl<'a> Model for JsonChangesText<'a> {
-    ghost use Rattle.std.specs.Prelude.{◌≡◌, List, ℕ};
+    ghost use Rattle.std.specs.Prelude.{◌≡◌};
     ghost use Rattle.flow_views.specs.code.ViewProgram.{AreShown, known_of};
     ghost use Rattle.flow_views.specs.declared.names.NameForm.TheVariants.{Quoted};
-    ghost use Rattle.json_texts.specs.Changes.{json_changes};
+    ghost use Rattle.doubt_origins.specs.Origins.{origins_in};
+    ghost use Rattle.json_texts.specs.Changes.{named_program_line};
+    ghost use Rattle.json_texts.specs.code.Lined.{difference_lines};
+    ghost use Rattle.source_lines.specs.SourceLines.{Lined};
 
-    ghost Value = { List ℕ };
+    ghost Value = { Lined };
 
-    ghost view = { λ text. json_changes text.shown.found.graph.now (known_of text.shown) text.shown.view };
+    ghost view = { λ text. record {
+      first = named_program_line text.shown.found.graph.now;
+      others = difference_lines (origins_in text.origins.items) text.shown.found.graph.now (known_of text.shown) text.shown.view;
+    } };
 
     ghost invariant = { λ text. AreShown text.shown × (text.shown.names.form ≡ Quoted) };
 }
@@ -536,19 +598,29 @@ impl<'a> JsonChangesText<'a> {
         requires tables { AreViewTables graph.now view tables.now }
         requires answers { TellReport graph.now answers.now }
         requires procedure { IfSome view.procedure (λ procedure. procedure < length graph.now.procedure_names) }
-        ensures { IfOk result (IsJsonChanges graph.now view) }
+        ensures first { IfOk result (λ lined. lined.first ≡ named_program_line graph.now) }
+        ensures lines { IfOk result (λ lined. IsJsonChanges graph.now view (all_of_lined lined)) }
     {
+        let origins = doubt_origins(alloc, graph, answers)?;
         let shown = ViewProgram::of(alloc, graph, tables, answers, view, NameForm::Quoted)?;
-        Ok(JsonChangesText { shown })
+        Ok(JsonChangesText { origins, shown })
     }
 }
 
-impl<'a> Text for JsonChangesText<'a> {
-    ghost bytes = { λ text. text };
+impl<'a> LinedText for JsonChangesText<'a> {
+    ghost first = { λ lined. lined.first };
 
-    fn write<K: Sink>(&self, out: &mut Pieces<'_, K>) {
+    ghost others = { λ lined. lined.others };
+
+    fn write_first<K: Sink>(&self, out: &mut Pieces<'_, K>) {
         write_named_program(&self.shown, out);
-        self.shown.write_all_points(&ChangedPoints, out);
+    }
+
+    fn write_others<K: Sink>(&self, out: &mut Pieces<'_, K>) {
+        let points = ChangedPoints {
+            origins: self.origins.as_slice(),
+        };
+        self.shown.write_all_points(&points, out);
         self.shown.write_all_points(&ChangedRemarks, out);
         write_end(&self.shown, out);
     }

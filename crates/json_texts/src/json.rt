@@ -16,6 +16,8 @@ ghost use Rattle.flow_views.specs.Json.{IsJson, array, boolean, end_line, facts_
 ghost use Rattle.flow_views.specs.Json.{remark_fields, remark_head, remark_object, span_fields, statement_field, when_field};
 ghost use Rattle.flow_reports.specs.Reports.{remarks_at};
 ghost use Rattle.json_texts.specs.Changes.{program_head};
+ghost use Rattle.json_texts.specs.code.Lined.{sets_with};
+ghost use Rattle.source_lines.specs.SourceLines.{all_of_lined};
 ghost use Rattle.text_pieces.specs.Strings.{quoted};
 ghost use Rattle.flow_views.specs.Views.{analysis_if, chosen_analyses, label_name, names_at, outcome, procedure_name, known_facts, is_chosen};
 
@@ -30,10 +32,11 @@ use flow_texts::{write_members, write_number};
 use flow_views::{NameForm, PointForm, View, ViewProgram, ViewTables, analysis_name, shown_points};
 use itoa::Buffer;
 use report_answers::ReportAnswers;
+use source_lines::LinedText;
 use std::alloc::Global;
 use std::marker::Model;
 use tac_program::{Label, Span, Stmt};
-use text_pieces::{Pieces, Sink, Text, TextBlock, write_if, write_quoted};
+use text_pieces::{Pieces, Sink, TextBlock, write_if, write_quoted};
 
 // Writes a kind with the field of what is named, and the name.
 fn write_named<K: Sink>(out: &mut Pieces<'_, K>, kind: &[u8], name: &[u8])
@@ -237,10 +240,10 @@ pub fn write_end<K: Sink>(shown: &ViewProgram<'_>, out: &mut Pieces<'_, K>)
     out.write(b"}\n");
 }
 
-/// Writes the lines of JSON but for the last, the remarks in a form of their own.
+/// Writes the lines of JSON but for the first and the last, the remarks in a form of their own.
 ///
 /// The conditions: it is one program that is shown, and the names of its bits are quoted.
-pub fn write_json<F: RemarkForm, K: Sink>(
+pub fn write_sets<F: RemarkForm, K: Sink>(
     shown: &ViewProgram<'_>,
     form: &F,
     out: &mut Pieces<'_, K>,
@@ -248,9 +251,8 @@ pub fn write_json<F: RemarkForm, K: Sink>(
     requires ready { CanWrite K.Sink out.old }
     requires shown { AreShown shown.now }
     requires form { shown.now.names.form ≡ Quoted }
-    ensures { Writes K.Sink out.old out.new (json_with (F.text form.now) shown.now.found.graph.now (known_of shown.now) shown.now.view) }
+    ensures { Writes K.Sink out.old out.new (sets_with (F.text form.now) shown.now.found.graph.now (known_of shown.now) shown.now.view) }
 {
-    write_program(out, shown.found.graph);
     shown.write_all_points(&JsonPoints, out);
     shown.write_all_points(&JsonRemarks { form }, out);
 }
@@ -323,14 +325,19 @@ pub struct JsonText<'a> {
 }
 
 impl<'a> Model for JsonText<'a> {
-    ghost use Rattle.std.specs.Prelude.{◌≡◌, List, ℕ};
+    ghost use Rattle.std.specs.Prelude.{◌≡◌};
     ghost use Rattle.flow_views.specs.code.ViewProgram.{AreShown, known_of};
     ghost use Rattle.flow_views.specs.declared.names.NameForm.TheVariants.{Quoted};
-    ghost use Rattle.flow_views.specs.Json.{json_of};
+    ghost use Rattle.flow_views.specs.Json.{program_line};
+    ghost use Rattle.json_texts.specs.code.Lined.{set_lines};
+    ghost use Rattle.source_lines.specs.SourceLines.{Lined};
 
-    ghost Value = { List ℕ };
+    ghost Value = { Lined };
 
-    ghost view = { λ text. json_of text.shown.found.graph.now (known_of text.shown) text.shown.view };
+    ghost view = { λ text. record {
+      first = program_line text.shown.found.graph.now;
+      others = set_lines text.shown.found.graph.now (known_of text.shown) text.shown.view;
+    } };
 
     ghost invariant = { λ text. AreShown text.shown × (text.shown.names.form ≡ Quoted) };
 }
@@ -350,18 +357,25 @@ impl<'a> JsonText<'a> {
         requires tables { AreViewTables graph.now view tables.now }
         requires answers { TellReport graph.now answers.now }
         requires procedure { IfSome view.procedure (λ procedure. procedure < length graph.now.procedure_names) }
-        ensures { IfOk result (IsJson graph.now view) }
+        ensures first { IfOk result (λ lined. lined.first ≡ program_line graph.now) }
+        ensures lines { IfOk result (λ lined. IsJson graph.now view (all_of_lined lined)) }
     {
         let shown = ViewProgram::of(alloc, graph, tables, answers, view, NameForm::Quoted)?;
         Ok(JsonText { shown })
     }
 }
 
-impl<'a> Text for JsonText<'a> {
-    ghost bytes = { λ text. text };
+impl<'a> LinedText for JsonText<'a> {
+    ghost first = { λ lined. lined.first };
 
-    fn write<K: Sink>(&self, out: &mut Pieces<'_, K>) {
-        write_json(&self.shown, &JsonLine, out);
+    ghost others = { λ lined. lined.others };
+
+    fn write_first<K: Sink>(&self, out: &mut Pieces<'_, K>) {
+        write_program(out, self.shown.found.graph);
+    }
+
+    fn write_others<K: Sink>(&self, out: &mut Pieces<'_, K>) {
+        write_sets(&self.shown, &JsonLine, out);
         write_end(&self.shown, out);
     }
 }

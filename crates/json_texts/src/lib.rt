@@ -6,7 +6,7 @@ mod differences;
 mod json;
 mod outlines;
 
-pub use changes::{JsonChangesText, write_json_changes, write_named_program};
-pub use json::{JsonText, write_chosen_head, write_end, write_json, write_remark_head};
+pub use changes::{JsonChangesText, write_differences, write_named_program};
+pub use json::{JsonText, write_chosen_head, write_end, write_remark_head, write_sets};
 pub use outlines::{PointOutline, write_bare_point, write_program};
 pub use std::alloc::AllocError as OutOfMemory;

@@ -1,12 +1,13 @@
 // Lines of JSON of a program and of its points, but for facts.
 
 ghost use Rattle.std.specs.Prelude.{◌≡◌, ◌+◌, ◌++◌, ◌<◌, All, Some, codes, decimal, map};
+ghost use Rattle.flow_graph.specs.Edges.{edges_from};
 ghost use Rattle.flow_graph.specs.Paths.{source_of};
 ghost use Rattle.flow_graph.specs.Points.{place_of, point_count, procedure_at, statement_at};
 ghost use Rattle.flow_views.specs.Json.{array, boolean, point_edge, program_line, span_fields, statement_field, when_field};
 ghost use Rattle.flow_views.specs.Views.{label_name, names_at, outcome, procedure_name};
 ghost use Rattle.json_texts.specs.Changes.{program_head};
-ghost use Rattle.json_texts.specs.code.Outlines.{IsOutline, bare_point_line, point_fields};
+ghost use Rattle.json_texts.specs.code.Outlines.{IsOutline, bare_point_line, point_fields, point_front};
 ghost use Rattle.tac_listing.specs.Listings.{statement_text};
 ghost use Rattle.text_pieces.specs.Pieces.{CanWrite, Writes};
 ghost use Rattle.text_pieces.specs.Strings.{quoted};
@@ -263,24 +264,43 @@ pub(crate) fn write_point_place<K: Sink>(out: &mut Pieces<'_, K>, graph: &Graph<
     write_number(out, place.place);
 }
 
-/// Writes the labels of a point, its statement, whether it is doubtful, and its edges.
-pub(crate) fn write_point_fields<K: Sink>(out: &mut Pieces<'_, K>, outline: &PointOutline<'_>)
+/// Writes the labels of a point, its statement, and whether it is doubtful.
+pub(crate) fn write_point_front<K: Sink>(out: &mut Pieces<'_, K>, outline: &PointOutline<'_>)
     requires ready { CanWrite K.Sink out.old }
     requires outline { IsOutline outline.now }
-    ensures { Writes K.Sink out.old out.new (point_fields outline.now.graph.now outline.now.doubtful outline.now.point) }
+    ensures { Writes K.Sink out.old out.new (point_front outline.now.graph.now outline.now.doubtful outline.now.point) }
 {
     let graph = outline.graph;
     let point = outline.point;
-    // Its contract tells that the program is sound.
-    let _ = graph.points();
     out.write(b",\"labels\":");
     write_labels(out, graph, point, labels_of(graph, point));
     out.write(b",\"statement\":");
     write_statement_or_null(out, graph, point);
     out.write(b",\"doubtful\":");
     write_boolean(out, outline.doubtful);
-    out.write(b",\"edges\":");
+}
+
+/// Writes the edges out of a point as an array.
+pub(crate) fn write_edges_out<K: Sink>(out: &mut Pieces<'_, K>, outline: &PointOutline<'_>)
+    requires ready { CanWrite K.Sink out.old }
+    requires outline { IsOutline outline.now }
+    ensures { Writes K.Sink out.old out.new
+        (array (map (point_edge outline.now.graph.now) (edges_from outline.now.graph.now outline.now.point))) }
+{
+    // Its contract tells that the program is sound.
+    let _ = outline.graph.points();
     write_edge_objects(out, outline, outline.edges);
+}
+
+/// Writes the labels of a point, its statement, whether it is doubtful, and its edges.
+pub(crate) fn write_point_fields<K: Sink>(out: &mut Pieces<'_, K>, outline: &PointOutline<'_>)
+    requires ready { CanWrite K.Sink out.old }
+    requires outline { IsOutline outline.now }
+    ensures { Writes K.Sink out.old out.new (point_fields outline.now.graph.now outline.now.doubtful outline.now.point) }
+{
+    write_point_front(out, outline);
+    out.write(b",\"edges\":");
+    write_edges_out(out, outline);
 }
 
 /// Writes the line of a point without facts.

@@ -4,7 +4,7 @@ ghost use Rattle.std.specs.Prelude.{◌≡◌, ◌<◌, ◌+◌, ◌-◌, ◌^�
 ghost use Rattle.std.specs.Io.KnownBytes.{Keeps};
 ghost use Rattle.flow_lints.specs.Lints.{IsLinted};
 ghost use Rattle.report_answers.specs.code.Reported.{TellReport};
-ghost use Rattle.flow_runs.specs.Faults.{Delivers, OfProgram, UnlessWrite, WhereNoGraph, WhereNoProcedure, WhereNoRemark};
+ghost use Rattle.flow_runs.specs.Faults.{Delivers, OfProgram, UnlessWrite, WhereLargeProcedure, WhereNoGraph, WhereNoProcedure, WhereNoRemark};
 ghost use Rattle.flow_runs.specs.Faults.{WhereRefused, WhereWrite, read_faults_in, write_faults_in};
 ghost use Rattle.flow_runs.specs.Runs.{HasNoGraph, IsOverLimit, Lacking, PullsLacking, PullsOverLimit};
 ghost use Rattle.lint_commands.specs.Runs.{DeliversBy, HasErrors, HasProcedure, IsTextOf, LacksProcedure, Lints, LintsWithin, ShowsProcedure};
@@ -419,6 +419,7 @@ pub fn run<R: Threads + Sync, G: Gate, S: Source, K: Sink>(
         (S.remaining source.old) (S.remaining source.new) (S.ended source.new))) }
     ensures no_procedure { IfErr result (WhereNoProcedure (PullsLacking wish.entry.limits (LacksProcedure (name_asked wish.entry.request))
         (S.remaining source.old) (S.remaining source.new) (S.ended source.new))) }
+    ensures all_sizes { IfErr result (WhereLargeProcedure ⊥) }
     ensures all_remarks { IfErr result (WhereNoRemark ⊥) }
     ensures beginning { IfErr result (WhereWrite (WritesBeginning wish.entry (S.remaining source.old) (S.remaining source.new) (S.ended source.new)
         (K.contents sink.old) (K.contents sink.new))) }

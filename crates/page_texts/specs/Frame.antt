@@ -7,6 +7,7 @@ use Rattle.page_texts.specs.declared.script_layout.TheConstants.{SCRIPT_LAYOUT}
 use Rattle.page_texts.specs.declared.script_lines.TheConstants.{SCRIPT_LINES}
 use Rattle.page_texts.specs.declared.script_panes.TheConstants.{SCRIPT_PANES}
 use Rattle.page_texts.specs.declared.script_rows.TheConstants.{SCRIPT_ROWS}
+use Rattle.page_texts.specs.declared.script_steps.TheConstants.{SCRIPT_STEPS}
 use Rattle.page_texts.specs.declared.style.TheConstants.{STYLE}
 
 unfoldable pub style : List ℕ
@@ -30,6 +31,9 @@ script_rows = SCRIPT_ROWS.now
 unfoldable pub script_panes : List ℕ
 script_panes = SCRIPT_PANES.now
 
+unfoldable pub script_steps : List ℕ
+script_steps = SCRIPT_STEPS.now
+
 unfoldable pub script_keys : List ℕ
 script_keys = SCRIPT_KEYS.now
 
@@ -39,4 +43,4 @@ before = style ++ body
 
 -- from the end of that element on
 abbrev pub behind : List ℕ
-behind = script_lines ++ script_facts ++ script_layout ++ script_rows ++ script_panes ++ script_keys
+behind = script_lines ++ script_facts ++ script_layout ++ script_rows ++ script_panes ++ script_steps ++ script_keys

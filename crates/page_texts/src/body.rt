@@ -14,6 +14,13 @@ const BODY: &str = r##"</head>
     aria-label="Search text or line; Enter goes to the next, Shift Enter to the one before">
   <span id="found" class="quiet" role="status"></span>
   <div id="kinds" role="group" aria-label="Kinds of remarks shown"></div>
+  <div id="rounds" role="group" aria-label="Rounds in which the sets come about" hidden>
+    <button id="round-switch" title="Rounds, or what holds in the end (s)">rounds</button>
+    <button id="round-back" aria-label="The round before" title="The round before (,)">←</button>
+    <input id="round" type="range" min="0" step="1" aria-label="Round">
+    <button id="round-on" aria-label="The next round" title="The next round (.)">→</button>
+    <output id="round-now" for="round"></output>
+  </div>
   <button id="theme" aria-label="Dark or light" title="Dark or light (t)">◐</button>
   <button id="help" aria-label="Help: keys and signs" title="Keys and signs (?)">?</button>
 </header>
@@ -61,6 +68,8 @@ const BODY: &str = r##"</head>
     <dt>a</dt><dd>to the first link of a remark: then Tab, and Enter goes there</dd>
     <dt>f b</dt><dd>follow a jump, into a call, out at an end; back to where you were</dd>
     <dt>0 – 4</dt><dd>all analyses, or one</dd>
+    <dt>. ,</dt><dd>the next round of an iteration, the one before, where the page has rounds</dd>
+    <dt>s</dt><dd>rounds from the start, or what holds in the end</dd>
     <dt>e</dt><dd>show or fold x@entry, the values at the beginning</dd>
     <dt>/</dt><dd>search a text or a line; Enter, Shift+Enter go through what is found; Esc leaves</dd>
     <dt>r</dt><dd>to the kinds of remarks: Space hides or shows one</dd>
@@ -74,6 +83,8 @@ const BODY: &str = r##"</head>
     <dt><span class="row never_reached">17</span></dt><dd>no valid path leads there; <i>already computed</i>, <i>very busy</i> and
       <i>held back</i> (not read, but what follows may never end) have no colour</dd>
     <dt><span class="row way">1 2 3</span></dt><dd>the steps of the way, in the margin and at the graph's nodes</dd>
+    <dt><span class="row changed"><span class="set">x</span></span></dt><dd>a set that the round changed; in the margin and at the graph's
+      nodes the order in which a round takes the points, – where a set is known from the beginning</dd>
     <dt>◆</dt><dd>a line that stands around the line's remarks: where the value is overwritten, was or will be evaluated, where control
       goes instead</dd>
     <dt>● ○</dt><dd>a line that the facts speak of and the statement is about; one that they only speak of: definitions that reach the

@@ -10,6 +10,7 @@ use crate::script_layout::script_layout;
 use crate::script_lines::script_lines;
 use crate::script_panes::script_panes;
 use crate::script_rows::script_rows;
+use crate::script_steps::script_steps;
 use crate::style::style;
 use text_pieces::{Pieces, Sink};
 
@@ -32,5 +33,6 @@ pub(crate) fn write_behind<K: Sink>(out: &mut Pieces<'_, K>)
     out.write(script_layout());
     out.write(script_rows());
     out.write(script_panes());
+    out.write(script_steps());
     out.write(script_keys());
 }

@@ -10,6 +10,7 @@ mod script_layout;
 mod script_lines;
 mod script_panes;
 mod script_rows;
+mod script_steps;
 mod signs;
 mod style;
 mod title;

@@ -13,7 +13,7 @@ function move(by) {
   const step = Math.sign(by), { rows } = page;
   let at = Math.max(0, Math.min(rows.length - 1, page.chosen.row + by));
   while (rows[at] && rows[at].sort !== "point") at += step;
-  choose(rows[at]?.point);
+  choose((rows[at] ?? pointRows().at(step < 0 ? 0 : -1)).point);
 }
 
 /** Chooses the next point in one direction of which something is true, around the program's ends. */
@@ -100,7 +100,7 @@ const KEYS = {
   w: turnWays, l: () => walkTo(page.way?.at + 1), ArrowRight: () => walkTo(page.way?.at + 1),
   h: () => walkTo(page.way?.at - 1), ArrowLeft: () => walkTo(page.way?.at - 1), Escape: leaveWay,
   "/": () => byId("search").focus(), r: () => byId("kinds").querySelector("button")?.focus(), e: toggleEntries, t: turnTheme,
-  g: turnPane, "?": () => byId("keys").showModal(),
+  s: turnRounds, ".": () => moveRound(1), ",": () => moveRound(-1), g: turnPane, "?": () => byId("keys").showModal(),
 };
 
 function pressInSearch(event) {
@@ -194,6 +194,10 @@ function listen() {
   byId("way-back").onclick = () => walkTo(page.way.at - 1);
   byId("way-on").onclick = () => walkTo(page.way.at + 1);
   byId("way-close").onclick = leaveWay;
+  byId("round").oninput = event => goToRound(Number(event.target.value));
+  byId("round-back").onclick = () => moveRound(-1);
+  byId("round-on").onclick = () => moveRound(1);
+  byId("round-switch").onclick = turnRounds;
   byId("skip").onclick = event => { event.preventDefault(); byId("listing").focus(); };
   byId("ruler").onclick = event => {
     const { clientHeight } = byId("ruler"), listing = byId("listing");
@@ -220,7 +224,7 @@ function start() {
   const began = performance.now();
   page.program = readProgram(byId("lines").textContent);
   page.rows = makeRows(page.program);
-  let digits = 2;
+  let digits = Math.max(2, String(page.program.source?.length ?? 0).length);
   for (const line of page.program.atLine.keys()) digits = Math.max(digits, String(line).length);
   byId("sheet").style.cssText = `height: ${page.rows.length * ROW_HEIGHT}px; --digits: ${digits}`;
   fillHead();
@@ -229,7 +233,9 @@ function start() {
   listen();
   const asked = placeAsked();
   page.chosen = asked.point ?? pointRows()[0].point;
-  chooseTab(page.program.analyses.includes(asked.analysis) ? asked.analysis : "all");
+  const [first] = page.program.iterations.keys();
+  if (first) page.round = 0;
+  chooseTab(page.program.analyses.includes(asked.analysis) ? asked.analysis : first ?? "all");
   byId("listing").focus({ preventScroll: true });
   document.documentElement.dataset.opened = String(Math.round(performance.now() - began));
 }

@@ -7,7 +7,7 @@ const SCRIPT_LINES: &str = r##"</script>
 
 <script>
 "use strict";
-/* The script has five parts: the lines, statements and facts, ways and remarks, the graph's layout, and the page itself. The first
+/* The script has six parts: the lines, statements and facts, ways and remarks, the graph's layout, the page itself, and rounds. The first
    four touch no document. Data comes into the document as text nodes and attributes alone, so no name can become markup. */
 
 /**
@@ -43,6 +43,7 @@ const SCRIPT_LINES: &str = r##"</script>
  * @property {number | null} line
  * @property {string[]} labels
  * @property {string | null} statement
+ * @property {number | null} [leads_to]  of a doubtful point one to which it leads, and from which no path leads to the end of main
  * @property {Edge[]} edges
  * @property {string | null} factsText  its facts, which are parsed when they are looked at
  * @property {Object<string, Changes>} [changes]  its facts, parsed
@@ -54,6 +55,14 @@ const SCRIPT_LINES: &str = r##"</script>
  * @property {number} row
  * @property {Parts} [words]  what its statement sets, uses and computes, as it is written
  *
+ * @typedef {Change & { point: number }} ChangeAt  what a round changes at a point
+ *
+ * @typedef {object} Iteration  the rounds in which the sets of an analysis come about in the procedure that is shown
+ * @property {"nothing" | "everything"} begin  what points that are computed have before the first round
+ * @property {Map<number, number>} turns  these points by number, each with its turn in a round, from 1
+ * @property {{ point: number, bits: number[] }[]} known  all others
+ * @property {ChangeAt[][]} rounds
+ *
  * @typedef {object} Program
  * @property {{ points: number, procedures: string[], variables: string[], definitions: number, expressions: number,
  *   definition_names: string[], expression_names: string[], language?: string }} head  of sources in C their language: then a point is
@@ -63,6 +72,8 @@ const SCRIPT_LINES: &str = r##"</script>
  * @property {Map<number, Point>} atLine
  * @property {Map<string, number>} counts  of remarks by kind
  * @property {string[]} analyses  those that the lines have facts of
+ * @property {{ line: number, start: number, text: string }[]} [source]  the lines of the text itself, where they are there
+ * @property {Map<string, Iteration>} iterations  of each analysis whose rounds the lines have
  * @property {boolean} ended  whether the last line was read, and as many points as it tells
  */
 
@@ -95,7 +106,9 @@ const REMARK_BEGINS = /"point":(\d+),.*?"kind":"(\w+)"/;
 /** @param {string} text
     @returns {Program} */
 function readProgram(text) {
-  const program = { head: null, title: "", points: new Map(), atLine: new Map(), counts: new Map(), analyses: [], ended: false };
+  const program = {
+    head: null, title: "", points: new Map(), atLine: new Map(), counts: new Map(), analyses: [], iterations: new Map(), ended: false,
+  };
   let number = 0;
   for (const line of linesOf(text)) {
     number += 1;
@@ -130,8 +143,21 @@ function readLine(program, line) {
   else if (line.startsWith('{"type":"doubt"')) keepRemark(program, JSON.parse(line).point, "doubt", line);
   else if (line.startsWith('{"type":"page"')) program.title = JSON.parse(line).title;
   else if (line.startsWith('{"type":"program"')) program.head = JSON.parse(line);
+  else if (line.startsWith('{"type":"source"')) (program.source ??= []).push(JSON.parse(line));
+  else if (line.startsWith('{"type":"steps"')) program.ended = false;   // lines of rounds follow, and an end of their own
+  else if (line.startsWith('{"type":"start"')) readStart(program, JSON.parse(line));
+  else if (line.startsWith('{"type":"round"')) readRound(program, JSON.parse(line));
   else if (line.startsWith('{"type":"end"')) program.ended = JSON.parse(line).points === program.points.size;
   else throw new Error("a line of another kind");
+}
+
+function readStart(program, { analysis, begin, order, known }) {
+  const turns = new Map(order.map((point, at) => [point, at + 1]));
+  program.iterations.set(analysis, { begin, turns, known, rounds: [] });
+}
+
+function readRound(program, { analysis, changed }) {
+  program.iterations.get(analysis).rounds.push(changed);
 }
 
 /** The facts stay text until the point is looked at: they are most of a large page. */
@@ -176,6 +202,7 @@ const stepsOf = point => point.edges.filter(edge => edge.kind === "step");
 
 /** The rows of the text: a point's row knows it, and the point its row. */
 function makeRows(program) {
+  if (program.source) return makeSourceRows(program);
   const rows = [];
   const word = program.head.language ? "" : "proc ";
   let procedure = null;
@@ -186,6 +213,28 @@ function makeRows(program) {
     point.row = rows.push({ sort: "point", text: point.statement ?? "end", point }) - 1;
   }
   return rows;
+}
+
+/** The rows of the text's own lines: those of statements and of ends know their points, all others can't be chosen. */
+function makeSourceRows(program) {
+  const points = [...program.points.values()];
+  const ends = new Map(points.filter(point => point.line === null).map(point => [point.procedure, point]));
+  const rows = [];
+  let procedure = null;
+  for (const { line, text } of program.source) {
+    const words = text.replace(/#.*/s, "").trim(), [, opened] = /^proc\s+(\w+)$/.exec(words) ?? [];
+    procedure = opened ?? procedure;
+    const point = words === "end" ? ends.get(procedure) : program.atLine.get(line);
+    const sort = point ? "point" : opened ? "procedure" : "source";
+    const row = rows.push({ sort, text: textOfBytes(text), point: point ?? null, line }) - 1;
+    if (point) point.row = row;
+  }
+  return rows;
+}
+
+/** Bytes as a text, of which each sign stands for one: UTF-8, and what is none has a sign in its place. */
+function textOfBytes(bytes) {
+  return /^[ -~]*$/.test(bytes) ? bytes : new TextDecoder().decode(Uint8Array.from(bytes, sign => sign.charCodeAt(0)));
 }
 
 "##;

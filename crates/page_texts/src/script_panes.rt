@@ -129,7 +129,8 @@ function showFacts() {
     byId("analyses").replaceChildren(element("p", { class: "quiet" }, words));
     return;
   }
-  byId("analyses").replaceChildren(...(tab === "all" ? program.analyses : [tab]).map(showAnalysis));
+  const show = showsRounds() ? showRoundHere : showAnalysis;
+  byId("analyses").replaceChildren(...(tab === "all" ? program.analyses : [tab]).map(show));
 }
 
 function showAnalysis(analysis) {
@@ -161,6 +162,7 @@ function toggleEntries() {
   /** @type {HTMLElement | null} */
   const box = document.activeElement.closest(".analysis");
   page.entriesShown = !page.entriesShown;
+  if (showsRounds()) choose(page.chosen);
   showFacts();
   if (box) byId("analyses").querySelector(`[data-analysis=${box.dataset.analysis}] [aria-expanded]`)?.focus();
 }
@@ -189,7 +191,8 @@ function drawGraph() {
   const pane = byId("graph"), { chosen, way } = page;
   if (!pane.clientWidth) return;
   const { shown, of } = stretchAround(page.program, chosen), room = pane.clientWidth - 28;
-  const key = [shown[0].point, shown.length, room, way?.remark.point, way?.remark.variable, ...page.shownKinds].join();
+  const round = showsRounds() ? [page.tab, page.round, page.entriesShown] : [];
+  const key = [shown[0].point, shown.length, room, way?.remark.point, way?.remark.variable, ...page.shownKinds, ...round].join();
   if (key !== drawnGraph?.key) drawnGraph = { key, ...makeGraph(shown, of, room) };
   for (const [point, group] of drawnGraph.groups) group.classList.toggle("chosen", point === chosen);
   for (const { edge, path } of drawnGraph.paths) path.classList.toggle("near", edge.from.point === chosen || edge.to.point === chosen);
@@ -254,16 +257,18 @@ function drawOutcome(svg, sizes, { from, to }) {
 function drawNode(svg, sizes, plan, node) {
   const { point } = node, x = sizes.x(node), y = sizes.y(node), { width, letters } = sizes;
   const leaves = nextPoints(page.program, point).some(next => !plan.nodes.has(next));   // the stretch that is drawn
-  const ordinals = page.way?.ordinals.get(point.point), said = saidOf(point);
-  const text = (leaves ? "↗ " : "") + (point.line === null ? "end" : `${point.line}  ${point.statement}`);
+  const ordinals = page.way?.ordinals.get(point.point), said = saidOf(point), told = shownAtRound(point);
+  const statement = point.line === null ? "end" : `${point.line}  ${point.statement}`;
+  const text = (leaves ? "↗ " : "") + (told ? `${point.line ?? "end"}  ${textOfSet(told)}` : statement);
   const short = width < 70 ? String(point.line ?? "end") : text.length > letters ? text.slice(0, letters - 1) + "…" : text;
-  const classes = `node ${kindOf(point) ?? "plain"}${ordinals ? " way" : ""}`;
+  const inRound = told ? `${told.turn ? " computed-set" : " known-set"}${told.isChanged ? " changed" : ""}` : "";
+  const classes = `node ${kindOf(point) ?? "plain"}${ordinals ? " way" : ""}${inRound}`;
   const group = element("g", { class: classes, "data-point": point.point, onclick: () => choose(point) },
-    element("title", {}, text + (said ? "\n" + said : "")),
+    element("title", {}, [told ? statement : text, told && textOfSet(told), said].filter(Boolean).join("\n")),
     element("rect", { class: "box", x: x - width / 2, y, width, height: NODE_HEIGHT, rx: 4 }),
     element("text", { x, y: y + 14, "text-anchor": "middle" }, short));
-  if (ordinals) {
-    const badge = ordinalText(ordinals), wide = badge.length * 6 + 6;
+  if (ordinals || told?.turn) {
+    const badge = ordinals ? ordinalText(ordinals) : String(told.turn), wide = badge.length * 6 + 6;
     group.append(element("rect", { class: "badge", x: x - width / 2 - 5, y: y - 6, width: wide, height: 12, rx: 6 }),
       element("text", { class: "ordinal", x: x - width / 2 - 5 + wide / 2, y: y + 3, "text-anchor": "middle" }, badge));
   }

@@ -28,13 +28,14 @@ function element(tag, properties = {}, ...children) {
 }
 
 /** What the page shows now.
-    @type {{ program: Program, rows: { sort: string, text: string, point: Point }[], chosen: Point, tab: string, shownKinds: Set<string>,
+    @type {{ program: Program, rows: { sort: string, text: string, point: Point, line?: number }[], chosen: Point, tab: string,
+      shownKinds: Set<string>, round: number | null,
       entriesShown: boolean, spoken: Map<Point, boolean>, around: Set<Point>, matches: Set<Point>, trail: Point[],
       way: null | { remark: Remark, stations: { at: number, hop: Hop | null }[], words: { words: string, tag: string }[], at: number,
         ordinals: Map<number, number[]>, steps: Set<string> } }} */
 const page = {
   program: null, rows: [], chosen: null, tab: "all", shownKinds: new Set(Object.keys(KINDS)), entriesShown: false,
-  spoken: new Map(), around: new Set(), matches: new Set(), trail: [], way: null,
+  spoken: new Map(), around: new Set(), matches: new Set(), trail: [], way: null, round: null,
 };
 
 const kindsOf = point => Object.keys(KINDS).filter(kind => page.shownKinds.has(kind) && point.remarks.has(kind));
@@ -64,8 +65,9 @@ function choose(point, { jump = false, byWay = false } = {}) {
   sayFound();
   if (page.way && !byWay) joinWay(point);
   const analysis = page.tab === "all" ? "reach" : page.tab;
-  page.spoken = page.program.analyses.includes(analysis) ? pointsSpokenOf(page.program, point, analysis) : new Map();
+  page.spoken = page.program.analyses.includes(analysis) && !showsRounds() ? pointsSpokenOf(page.program, point, analysis) : new Map();
   page.around = pointsAround(point);
+  showRounds();
   scrollToChosen();
   byId("listing").setAttribute("aria-activedescendant", "row" + point.row);
   byId("procedures").value = point.procedure;
@@ -96,40 +98,45 @@ function saidOf(point) {
 }
 
 function makeRow(at) {
-  const { sort, text, point } = page.rows[at];
-  if (sort !== "point") return makeHeadRow(sort, text, at);
+  const { sort, text, point, line } = page.rows[at];
+  if (sort !== "point") return makeHeadRow(sort, text, at, line);
   const said = saidOf(point), ordinals = page.way?.ordinals.get(point.point), tags = ordinals ? tagsOf(ordinals) : "";
+  const told = shownAtRound(point);
   const classes = ["row", "point", kindOf(point) ?? "plain"];
   if (ordinals) classes.push("way");
   if (page.way?.stations[page.way.at]?.at === point.point) classes.push("current");
   if (page.matches.has(point)) classes.push("match");
+  if (told) classes.push(told.turn ? "computed-set" : "known-set", ...(told.isChanged ? ["changed"] : []));
   const properties = {
     class: classes.join(" "), id: "row" + at, role: "option", "data-point": point.point, style: `top:${at * ROW_HEIGHT}px`,
     "aria-selected": point === page.chosen, "aria-posinset": point.position, "aria-setsize": page.program.points.size,
-    "aria-label": labelOfRow(point, said, ordinals), onclick: () => choose(point),
+    "aria-label": labelOfRow(point, said, ordinals, told), onclick: () => choose(point),
   };
   return element("div", properties,
-    ...(page.way ? [element("span", { class: "stations" }, ordinalText(ordinals))] : []),
+    ...(page.way || told ? [element("span", { class: "stations" }, told ? String(told.turn ?? "–") : ordinalText(ordinals))] : []),
     element("span", { class: "mark" }, markOf(point)),
-    element("span", { class: "number" }, String(point.line ?? "")),
-    element("code", {}, point.statement === null ? "end" : "  " + text),
+    element("span", { class: "number" }, String(line ?? point.line ?? "")),
+    element("code", {}, line || point.statement === null ? text : "  " + text),
     ...(tags ? [element("span", { class: "tag" }, tags)] : []),
+    ...(told ? [element("span", { class: "set", title: textOfSet(told) }, textOfSet(told))] : []),
     element("span", { class: "said", title: said }, said));
 }
 
-/** The row of a procedure or a label, which can't be chosen: the row of its point tells it to who can't see it. */
-function makeHeadRow(sort, text, at) {
+/** The row of a procedure or a label, which can't be chosen: the row of its point tells it to who can't see it. So is one of the text's own that
+    has no statement. */
+function makeHeadRow(sort, text, at, line) {
   return element("div", { class: "row " + sort, "aria-hidden": true, style: `top:${at * ROW_HEIGHT}px` },
-    ...(page.way ? [element("span", { class: "stations" })] : []),
-    element("span", { class: "mark" }), element("span", { class: "number" }), element("span", { class: "name" }, text));
+    ...(page.way || showsRounds() ? [element("span", { class: "stations" })] : []),
+    element("span", { class: "mark" }), element("span", { class: "number" }, String(line ?? "")), element("span", { class: "name" }, text));
 }
 
-function labelOfRow(point, said, ordinals) {
+function labelOfRow(point, said, ordinals, told) {
   return [
     point.place === 0 && `${page.program.head.language ? "file" : "procedure"} ${point.procedure}`,
     ...point.labels.map(label => `label ${label}`),
     `${placeName(point)}${point.statement === null ? "" : ": " + point.statement}`,
     said,
+    told && labelOfRound(told),
     ordinals && `step ${ordinals.join(" and ")} of the way, ${tagsOf(ordinals)}`,
     page.around.has(point) && "around the chosen line's remarks",
   ].filter(Boolean).join(". ");
@@ -275,7 +282,14 @@ function showControl() {
     return pointLink(point.point, outcome === null ? "" : `${outcome}: `);
   };
   byId("control").replaceChildren(...lines.filter(({ points }) => points.length).map(({ word, points }) =>
-    chipsLine(word, shortened(points, POINTS_AT_FIRST, link(word)), { "data-control": word })));
+    chipsLine(word, shortened(points, POINTS_AT_FIRST, link(word)), { "data-control": word })), ...doubtOf(chosen));
+}
+
+/** Why what follows a point may never end: the point to which it leads and from which no path leads to the end of main. */
+function doubtOf({ point, leads_to: origin }) {
+  if (origin === null || origin === undefined) return [];
+  const words = origin === point ? "doubtful: no path leads from here to the end of main" : "doubtful: no path leads to the end of main from";
+  return [chipsLine(words, origin === point ? [] : [pointLink(origin)], { "data-control": "doubtful" })];
 }
 
 "##;

@@ -90,6 +90,10 @@ header {
 #kinds { display: flex; flex-wrap: wrap; gap: 4px; }
 #kinds button { white-space: nowrap; }
 #kinds button[aria-pressed=false] { color: var(--quiet); text-decoration: line-through; background: none; border-style: dashed; }
+#rounds { display: flex; flex-wrap: wrap; gap: 4px 6px; align-items: center; min-width: 0; }
+#rounds [aria-pressed=true] { background: var(--chosen); border-color: var(--link); }
+#round { width: 12em; padding: 0; accent-color: var(--link); }
+#round-now { min-width: 15em; font-size: 13px; }
 #theme { margin-left: auto; }
 .sample {
   display: inline-block;
@@ -162,9 +166,21 @@ main > section { overflow: auto; border-left: 1px solid var(--line); padding: 10
   font-size: 12px;
   color: var(--quiet);
 }
+.row .set {
+  flex: 3 1 0;
+  min-width: 0;
+  margin-left: 1.2em;
+  overflow: hidden;
+  text-overflow: ellipsis;
+  font-size: 12px;
+}
+.row:is(.computed-set, .known-set) code { flex: 0 0 min(20em, 38%); }
+.row.known-set .set { color: var(--quiet); font-style: italic; }
+.row.changed .set { color: var(--came); font-weight: 700; }
+.row.changed .stations { text-decoration: underline; }
 .row.procedure { background: var(--raised); font-weight: 600; }
-.row.label { color: var(--quiet); }
-.row:is(.procedure, .label) .name { overflow: hidden; text-overflow: ellipsis; }
+.row:is(.label, .source) { color: var(--quiet); }
+.row:is(.procedure, .label, .source) .name { overflow: hidden; text-overflow: ellipsis; }
 .row.way { background: var(--way-back); }
 .row.never_reached { background: var(--unreached-back); }
 .row.never_reached :is(code, .number, .said) { color: var(--unreached-ink); }
@@ -255,6 +271,9 @@ main > section { overflow: auto; border-left: 1px solid var(--line); padding: 10
 #graph .way .box { stroke: var(--way); stroke-width: 2; }
 #graph .chosen .box { stroke: var(--link); stroke-width: 3; }
 #graph :is(.plain, .computed, .busy, .doubt).chosen .box { fill: var(--chosen); }
+#graph .known-set .box { stroke-dasharray: 4 3; }
+#graph .changed .box { stroke: var(--came); stroke-width: 2.4; }
+#graph .changed.chosen .box { stroke: var(--link); stroke-width: 3; }
 #graph .badge { fill: var(--way); stroke: none; }
 #graph .ordinal { fill: var(--paper); font-size: 9px; font-weight: 700; }
 #graph path { fill: none; stroke: var(--quiet); stroke-width: 1.2; }
@@ -288,6 +307,9 @@ dd { margin: 0; }
   #summary { display: none; }
   h1 { max-width: 8em; }
   #search { width: 6em; flex: 1; }
+  #rounds { width: 100%; order: 2; }
+  #round { flex: 1; min-width: 5em; }
+  #round-now { min-width: 0; width: 100%; }
   #kinds { flex-wrap: nowrap; overflow-x: auto; width: 100%; order: 1; padding: 3px; }
   #procedures { max-width: 7em; }
   .row .said { margin-left: 1em; }

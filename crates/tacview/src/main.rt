@@ -19,7 +19,9 @@ const NAME: &str = "tacview";
 
 // Tells of a page that takes long to open.
 fn tell_size(rt: &HostRuntime, format: Format, bytes: u64) {
-    if !matches!(format, Format::Html | Format::HtmlPaths) || bytes <= SLOW_PAGE {
+    if !matches!(format, Format::Html | Format::HtmlPaths | Format::HtmlSteps)
+        || bytes <= SLOW_PAGE
+    {
         return;
     }
     if let Ok(line) = large_page_line(rt.alloc(), bytes) {

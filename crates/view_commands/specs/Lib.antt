@@ -1,4 +1,5 @@
 pub mod Views
 pub mod Lines
+pub mod Steps
 pub mod Merges
 pub mod code

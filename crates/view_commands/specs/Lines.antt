@@ -31,9 +31,19 @@ abbrev pub no_remark_line : Option (List ℕ) → List ℕ
 no_remark_line (Some place) = missing_line (codes ": no variable may be used before it is set at ") place
 no_remark_line None = line_of_fault (codes "tacview") fault.NoRemark
 
+-- the same where a procedure has too many points for its rounds
+abbrev pub large_line : List ℕ → List ℕ
+large_line name =
+    codes "tacview" ++ (codes ": the procedure " ++ escaped name ++ codes " has more than 200 points: --steps shows at most 200\n")
+
+abbrev pub large_procedure_line : Option (List ℕ) → List ℕ
+large_procedure_line (Some name) = large_line name
+large_procedure_line None = line_of_fault (codes "tacview") fault.LargeProcedure
+
 -- The whole line, with its line feed, where this procedure and this place were asked for.
 abbrev pub fault_line : Option (List ℕ) → Option (List ℕ) → Fault → List ℕ
 fault_line procedure place fault.NoProcedure = no_procedure_line procedure
+fault_line procedure place fault.LargeProcedure = large_procedure_line procedure
 fault_line procedure place fault.NoRemark = no_remark_line place
 fault_line procedure place f = line_of_fault (codes "tacview") f
 

@@ -1,10 +1,12 @@
 //! What `tacview` does with its options and its streams: a program's flow graph with what holds at its points, for Graphviz or as
-//! lines of JSON, its call graph, or a page around these, or the report on it, whole or in parts; and the report that its parts make.
+//! lines of JSON, the rounds in which its sets come about, its call graph, or a page around these, or the report on it, whole or in
+//! parts; and the report that its parts make.
 #![tactic(auto)]
 
 mod counted;
 mod lines;
 mod merges;
+mod rounds;
 mod runs;
 mod sizes;
 mod views;

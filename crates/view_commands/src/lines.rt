@@ -2,7 +2,8 @@
 
 ghost use Rattle.std.specs.Prelude.{◌≡◌, ◌<◌, ◌++◌, IfOk, OnOk, option_map};
 ghost use Rattle.std.specs.String.{string_bytes};
-ghost use Rattle.view_commands.specs.Lines.{escaped, escaped_byte, hex_digit, is_plain, fault_line, missing_line, no_procedure_line, no_remark_line};
+ghost use Rattle.view_commands.specs.Lines.{escaped, escaped_byte, hex_digit, is_plain, fault_line, large_line, large_procedure_line, missing_line};
+ghost use Rattle.view_commands.specs.Lines.{no_procedure_line, no_remark_line};
 
 use flow_runs::{Fault, OutOfMemory, fault_line, line_with};
 use std::alloc::Global;
@@ -62,6 +63,26 @@ fn no_procedure_line(alloc: Global, name: Option<&String>) -> Result<Vec<u8>, Ou
     }
 }
 
+// The line that tells that the procedure of this name has too many points for its rounds.
+fn large_line(alloc: Global, name: &str) -> Result<Vec<u8>, OutOfMemory>
+    ensures { IfOk result (λ line. line.items ≡ large_line name.now) }
+{
+    let mut rest = b": the procedure ".to_vec(alloc)?;
+    push_escaped(&mut rest, name.as_bytes())?;
+    rest.extend_from_slice(b" has more than 200 points: --steps shows at most 200\n")?;
+    line_with(alloc, "tacview", &rest)
+}
+
+// The same, with its name where there is one.
+fn large_procedure_line(alloc: Global, name: Option<&String>) -> Result<Vec<u8>, OutOfMemory>
+    ensures { IfOk result (λ line. line.items ≡ large_procedure_line (option_map (λ n. string_bytes n.now) name.entry)) }
+{
+    match name {
+        Some(name) => large_line(alloc, name.as_str()),
+        None => fault_line(alloc, "tacview", &Fault::LargeProcedure),
+    }
+}
+
 // The line that tells that a remark is not there, with its place where there is one.
 fn no_remark_line(alloc: Global, place: Option<&String>) -> Result<Vec<u8>, OutOfMemory>
     ensures { IfOk result (λ line. line.items ≡ no_remark_line (option_map (λ n. string_bytes n.now) place.entry)) }
@@ -76,15 +97,16 @@ fn no_remark_line(alloc: Global, place: Option<&String>) -> Result<Vec<u8>, OutO
     }
 }
 
-/// The line on standard error that tells a fault, with its line feed; where a procedure or a remark is not there, with the name that was asked
-/// for, in which each byte that is no printed sign of ASCII, or is a backslash, is told as `\x` and two hexadecimal digits. Fails only
-/// where memory runs out.
+/// The line on standard error that tells a fault, with its line feed; where a procedure or a remark is not there, or a procedure has too many
+/// points for its rounds, with the name that was asked for, in which each byte that is no printed sign of ASCII, or is a backslash, is told
+/// as `\x` and two hexadecimal digits. Fails only where memory runs out.
 pub fn line_of(alloc: Global, asked: &Asked, fault: &Fault) -> Result<Vec<u8>, OutOfMemory>
     ensures { IfOk result (λ line. line.items ≡ fault_line (option_map string_bytes asked.now.procedure) (option_map string_bytes asked.now.because)
         fault.now) }
 {
     match fault {
         Fault::NoProcedure => no_procedure_line(alloc, asked.procedure.as_ref()),
+        Fault::LargeProcedure => large_procedure_line(alloc, asked.procedure.as_ref()),
         Fault::NoRemark => no_remark_line(alloc, asked.because.as_ref()),
         _ => fault_line(alloc, "tacview", fault),
     }

@@ -2,10 +2,11 @@
 
 ghost use Rattle.std.specs.Prelude.{◌≡◌, ◌<◌, ◌+◌, ◌-◌, ◌^◌, true, false, IfErr, OnOk};
 ghost use Rattle.std.specs.Io.KnownBytes.{Keeps};
-ghost use Rattle.flow_runs.specs.Faults.{UnlessWrite, WhereNoGraph, WhereNoProcedure, WhereNoRemark};
+ghost use Rattle.flow_runs.specs.Faults.{UnlessWrite, WhereLargeProcedure, WhereNoGraph, WhereNoProcedure, WhereNoRemark};
 ghost use Rattle.flow_runs.specs.Faults.{WhereRefused, WhereWrite, read_faults_in, write_faults_in};
 ghost use Rattle.flow_runs.specs.Runs.{PullsLacking, PullsOverLimit, PullsRefused, WritesAnswerOf, WritesBeginningOf};
-ghost use Rattle.view_commands.specs.Views.{IsShown, LacksProcedure, LacksRemark, request_of};
+ghost use Rattle.view_commands.specs.Steps.{tells_rounds};
+ghost use Rattle.view_commands.specs.Views.{HasLargeProcedure, IsShown, LacksProcedure, LacksRemark, request_of};
 ghost use Rattle.view_words.specs.Commands.{name_queried};
 
 use crate::views::GatedOptions;
@@ -24,8 +25,9 @@ use view_words::Options;
 /// The condition: the source has not ended, and both counts of faults are below `u32::MAX`.
 ///
 /// - `Refused`: the text is no program within the limits. `Graph`: it is one, but has too many points (21) or bits (22) for them.
-///   `NoProcedure`: it is one, but no procedure of it has the name that the options ask for. `NoRemark`: at the place whose path they ask
-///   for no variable that is shown may be used before it is set.
+///   `NoProcedure`: it is one, but no procedure of it has the name that the options ask for, or they ask for rounds and name none.
+///   `LargeProcedure`: the options ask for rounds, and the procedure of that name has more than 200 points. `NoRemark`: at the place whose
+///   path they ask for no variable that is shown may be used before it is set.
 /// - `OutOfMemory`: memory was refused.
 /// - `Read`: a pull was answered by a fault. `Write`: a push or the flush was; a beginning of what
 ///   is to be shown was pushed. After every other fault nothing was.
@@ -47,7 +49,10 @@ pub fn run<R: Threads + Sync, S: Source, K: Sink>(
         (S.remaining source.old) (S.remaining source.new) (S.ended source.new))) }
     ensures no_graph { IfErr result (WhereNoGraph (PullsOverLimit options.now.limits true
         (S.remaining source.old) (S.remaining source.new) (S.ended source.new))) }
-    ensures no_procedure { IfErr result (WhereNoProcedure (PullsLacking options.now.limits (LacksProcedure (name_queried options.now))
+    ensures no_procedure { IfErr result (WhereNoProcedure (PullsLacking options.now.limits
+        (LacksProcedure (tells_rounds options.now.format) (name_queried options.now))
+        (S.remaining source.old) (S.remaining source.new) (S.ended source.new))) }
+    ensures large { IfErr result (WhereLargeProcedure (PullsLacking options.now.limits (HasLargeProcedure (request_of options.now))
         (S.remaining source.old) (S.remaining source.new) (S.ended source.new))) }
     ensures no_remark { IfErr result (WhereNoRemark (PullsLacking options.now.limits (LacksRemark (request_of options.now))
         (S.remaining source.old) (S.remaining source.new) (S.ended source.new))) }

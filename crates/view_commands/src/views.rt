@@ -1,26 +1,31 @@
 // What is written of a program.
 
-ghost use Rattle.std.specs.Prelude.{◌≡◌, ◌+◌, ◌-◌, ◌^◌, ◌<◌, Some, IfOk, IfErr, IfSome, OnOk, MatchOption, false, length, option_map, true};
+ghost use Rattle.std.specs.Prelude.{◌≡◌, ◌+◌, ◌++◌, ◌-◌, ◌^◌, ◌<◌, None, Some, IfOk, IfErr, IfSome, IsSome, OnOk, MatchOption, false, length};
+ghost use Rattle.std.specs.Prelude.{option_map, true};
 ghost use Rattle.std.specs.Thread.{IsSync};
 ghost use Rattle.block_dots.specs.BlockDots.{IsBlockDot};
 ghost use Rattle.call_dots.specs.CallDots.{IsCallDot};
 ghost use Rattle.flow_graph.specs.Limits.{HasFewBits, HasFewPoints};
 ghost use Rattle.flow_paths.specs.Paths.{IsJsonWithPaths};
 ghost use Rattle.flow_paths.specs.Pictures.{IsDotWithPath, LacksUse};
-ghost use Rattle.flow_runs.specs.Faults.{Delivers, OfProgram, write_faults_in};
+ghost use Rattle.flow_runs.specs.Faults.{Delivers, OfProcedure, OfProgram, write_faults_in};
 ghost use Rattle.flow_runs.specs.Runs.{IsOverLimit};
 ghost use Rattle.report_answers.specs.code.Reported.{TellReport};
 ghost use Rattle.flow_views.specs.Dots.{IsDot};
-ghost use Rattle.flow_views.specs.Json.{IsJson};
+ghost use Rattle.flow_views.specs.Json.{IsJson, program_line};
 ghost use Rattle.flow_views.specs.ViewTables.{AreViewTables};
 ghost use Rattle.json_parts.specs.JsonParts.{IsJsonPart};
-ghost use Rattle.json_texts.specs.Changes.{IsJsonChanges};
+ghost use Rattle.json_texts.specs.Changes.{IsJsonChanges, named_program_line};
 ghost use Rattle.flow_parts.specs.Parts.{IsPart};
 ghost use Rattle.page_texts.specs.Pages.{page_of};
-ghost use Rattle.view_commands.specs.Views.{HasProcedure, IsJsonOrPart, IsPage, IsPicture, IsReportOrPart, IsShownBy, IsText, LacksNamed, LacksProcedure};
-ghost use Rattle.view_commands.specs.Views.{LacksRemark, ShowsProcedure, digest_for, request_of, view_for};
-ghost use Rattle.view_words.specs.Commands.{because_queried, name_queried, share_queried, title_queried};
+ghost use Rattle.source_lines.specs.SourceLines.{IsSourced, source_lines};
+ghost use Rattle.view_commands.specs.Steps.{IsTooLarge, tells_rounds};
+ghost use Rattle.view_commands.specs.Views.{HasLargeProcedure, HasProcedure, IsJsonOrPart, IsPage, IsPicture, IsReportOrPart, IsShownBy, IsText};
+ghost use Rattle.view_commands.specs.Views.{LacksNamed, LacksProcedure};
+ghost use Rattle.view_commands.specs.Views.{LacksRemark, ShowsProcedure, kept_for, request_of, source_in, view_for};
+ghost use Rattle.view_words.specs.Commands.{because_queried, name_queried, share_queried, source_queried, title_queried};
 
+use crate::rounds::{push_html_steps, push_steps, tells_rounds};
 use crate::sizes::{calls_words, is_large, size_words};
 use block_dots::BlockDotText;
 use call_dots::CallDotText;
@@ -37,6 +42,7 @@ use page_texts::PageText;
 use part_texts::Share;
 use report_answers::ReportAnswers;
 use run_progress::Progress;
+use source_lines::{LinedText, SourcedText};
 use std::alloc::Global;
 use std::thread::Threads;
 use tac_program::{Limits, Program};
@@ -45,7 +51,7 @@ use view_words::{Format, Options};
 
 // The number of the procedure of this name.
 fn procedure_named(program: &Program, name: &[u8]) -> Option<u32>
-    ensures { MatchOption result (LacksProcedure (Some name.now) program.now) (HasProcedure program.now name.now) }
+    ensures { MatchOption result (LacksProcedure false (Some name.now) program.now) (HasProcedure program.now name.now) }
 {
     for number in 0..program.procs().len() as u32 {
         if program.procedure(number) == name {
@@ -60,11 +66,16 @@ fn view_of(program: &Program, options: &Options) -> Result<View, Fault>
     ensures view { IfOk result (λ view. view ≡ view_for (request_of options.now) view.procedure) }
     ensures procedure { IfOk result (λ view. ShowsProcedure program.now (name_queried options.now) view.procedure) }
     ensures there { IfOk result (λ view. IfSome view.procedure (λ number. number < length program.now.procedure_names)) }
-    ensures lacks { IfErr result (λ fault. (fault ≡ Fault.NoProcedure) × LacksProcedure (name_queried options.now) program.now) }
+    ensures one { IfOk result (λ view. tells_rounds options.now.format ≡ true → IsSome view.procedure) }
+    ensures lacks { IfErr result (λ fault. (fault ≡ Fault.NoProcedure)
+        × LacksProcedure (tells_rounds options.now.format) (name_queried options.now) program.now) }
 {
     let facts = options.facts;
     let look = options.asked.look;
     let Some(name) = &options.asked.procedure else {
+        if tells_rounds(options.format) {
+            return Err(Fault::NoProcedure);
+        }
         return Ok(View {
             facts,
             procedure: None,
@@ -82,7 +93,7 @@ fn view_of(program: &Program, options: &Options) -> Result<View, Fault>
 }
 
 // What texts of a graph are made of: the tables of what is shown, and the answers to what a report asks.
-fn tables_and_answers<R: Threads + Sync>(
+pub(crate) fn tables_and_answers<R: Threads + Sync>(
     team: &Team<'_, R, Progress>,
     alloc: Global,
     graph: &Graph<'_>,
@@ -236,25 +247,52 @@ fn push_calls<R: Threads + Sync, K: Sink>(
     push_text(alloc, &text, sink)
 }
 
+/// What is shown of a program, its digest where a part names it, and the source whose lines are told.
+#[derive(Clone, Copy)]
+struct Shown<'a> {
+    view: View,
+    digest: &'a [u8],
+    source: &'a [u8],
+}
+
+// Writes lines with those of the source behind the first one.
+fn push_lines<T: LinedText, K: Sink>(
+    alloc: Global,
+    source: &[u8],
+    lines: &T,
+    sink: &mut K,
+) -> Result<(), Fault>
+    requires below { K.faults sink.old < 2 ^ 32 - 1 }
+    ensures delivers { Delivers (λ out. out ≡ T.first lines.now ++ source_lines source.now ++ T.others lines.now) (K.contents sink.old)
+        (K.contents sink.new) result }
+    ensures flushed { OnOk result (K.flushed sink.new ≡ true) }
+    ensures fault { IfErr result (OfProgram (λ _. ⊥) ⊥ ⊥) }
+    ensures faults { K.faults sink.new ≡ K.faults sink.old + write_faults_in result }
+{
+    let text = SourcedText { source, lines };
+    push_text(alloc, &text, sink)
+}
+
 // Writes the lines of JSON.
 fn push_json<R: Threads + Sync, K: Sink>(
     team: &Team<'_, R, Progress>,
     alloc: Global,
     graph: &Graph<'_>,
-    view: View,
+    shown: Shown<'_>,
     sink: &mut K,
 ) -> Result<(), Fault>
     requires threads { IsSync R.row }
     requires below { K.faults sink.old < 2 ^ 32 - 1 }
-    requires there { IfSome view.procedure (λ number. number < length graph.now.procedure_names) }
-    ensures delivers { Delivers (λ out. IsJson graph.now view out) (K.contents sink.old) (K.contents sink.new) result }
+    requires there { IfSome shown.view.procedure (λ number. number < length graph.now.procedure_names) }
+    ensures delivers { Delivers (IsSourced shown.entry.source.now (program_line graph.now) (IsJson graph.now shown.entry.view))
+        (K.contents sink.old) (K.contents sink.new) result }
     ensures flushed { OnOk result (K.flushed sink.new ≡ true) }
     ensures fault { IfErr result (OfProgram (λ _. ⊥) ⊥ ⊥) }
     ensures faults { K.faults sink.new ≡ K.faults sink.old + write_faults_in result }
 {
-    let (tables, answers) = tables_and_answers(team, alloc, graph, view)?;
-    let text = JsonText::of(alloc, graph, &tables, &answers, view)?;
-    push_text(alloc, &text, sink)
+    let (tables, answers) = tables_and_answers(team, alloc, graph, shown.view)?;
+    let lines = JsonText::of(alloc, graph, &tables, &answers, shown.view)?;
+    push_lines(alloc, shown.source, &lines, sink)
 }
 
 // Writes the lines of JSON with paths.
@@ -262,20 +300,21 @@ fn push_json_paths<R: Threads + Sync, K: Sink>(
     team: &Team<'_, R, Progress>,
     alloc: Global,
     graph: &Graph<'_>,
-    view: View,
+    shown: Shown<'_>,
     sink: &mut K,
 ) -> Result<(), Fault>
     requires threads { IsSync R.row }
     requires below { K.faults sink.old < 2 ^ 32 - 1 }
-    requires there { IfSome view.procedure (λ number. number < length graph.now.procedure_names) }
-    ensures delivers { Delivers (λ out. IsJsonWithPaths false graph.now view out) (K.contents sink.old) (K.contents sink.new) result }
+    requires there { IfSome shown.view.procedure (λ number. number < length graph.now.procedure_names) }
+    ensures delivers { Delivers (IsSourced shown.entry.source.now (program_line graph.now) (IsJsonWithPaths false graph.now shown.entry.view))
+        (K.contents sink.old) (K.contents sink.new) result }
     ensures flushed { OnOk result (K.flushed sink.new ≡ true) }
     ensures fault { IfErr result (OfProgram (λ _. ⊥) ⊥ ⊥) }
     ensures faults { K.faults sink.new ≡ K.faults sink.old + write_faults_in result }
 {
-    let (tables, answers) = tables_and_answers(team, alloc, graph, view)?;
-    let text = JsonPathsText::of(alloc, graph, &tables, &answers, view, false)?;
-    push_text(alloc, &text, sink)
+    let (tables, answers) = tables_and_answers(team, alloc, graph, shown.view)?;
+    let lines = JsonPathsText::of(alloc, graph, &tables, &answers, shown.view, false)?;
+    push_lines(alloc, shown.source, &lines, sink)
 }
 
 // Writes the lines of JSON with what changes from point to point.
@@ -283,20 +322,21 @@ fn push_json_changes<R: Threads + Sync, K: Sink>(
     team: &Team<'_, R, Progress>,
     alloc: Global,
     graph: &Graph<'_>,
-    view: View,
+    shown: Shown<'_>,
     sink: &mut K,
 ) -> Result<(), Fault>
     requires threads { IsSync R.row }
     requires below { K.faults sink.old < 2 ^ 32 - 1 }
-    requires there { IfSome view.procedure (λ number. number < length graph.now.procedure_names) }
-    ensures delivers { Delivers (λ out. IsJsonChanges graph.now view out) (K.contents sink.old) (K.contents sink.new) result }
+    requires there { IfSome shown.view.procedure (λ number. number < length graph.now.procedure_names) }
+    ensures delivers { Delivers (IsSourced shown.entry.source.now (named_program_line graph.now) (IsJsonChanges graph.now shown.entry.view))
+        (K.contents sink.old) (K.contents sink.new) result }
     ensures flushed { OnOk result (K.flushed sink.new ≡ true) }
     ensures fault { IfErr result (OfProgram (λ _. ⊥) ⊥ ⊥) }
     ensures faults { K.faults sink.new ≡ K.faults sink.old + write_faults_in result }
 {
-    let (tables, answers) = tables_and_answers(team, alloc, graph, view)?;
-    let text = JsonChangesText::of(alloc, graph, &tables, &answers, view)?;
-    push_text(alloc, &text, sink)
+    let (tables, answers) = tables_and_answers(team, alloc, graph, shown.view)?;
+    let lines = JsonChangesText::of(alloc, graph, &tables, &answers, shown.view)?;
+    push_lines(alloc, shown.source, &lines, sink)
 }
 
 // The title that the options name.
@@ -310,14 +350,15 @@ fn title_of(options: &Options) -> Option<&[u8]>
 }
 
 // Writes the page around lines.
-fn push_page<T: Text, K: Sink>(
+pub(crate) fn push_page<T: Text, K: Sink>(
     alloc: Global,
     options: &Options,
     lines: &T,
     sink: &mut K,
 ) -> Result<(), Fault>
     requires below { K.faults sink.old < 2 ^ 32 - 1 }
-    ensures delivers { Delivers (λ out. out ≡ page_of (title_queried options.now) (T.bytes lines.now)) (K.contents sink.old) (K.contents sink.new) result }
+    ensures delivers { Delivers (λ out. out ≡ page_of (title_queried options.now) (T.bytes lines.now)) (K.contents sink.old) (K.contents sink.new)
+        result }
     ensures flushed { OnOk result (K.flushed sink.new ≡ true) }
     ensures fault { IfErr result (OfProgram (λ _. ⊥) ⊥ ⊥) }
     ensures faults { K.faults sink.new ≡ K.faults sink.old + write_faults_in result }
@@ -326,26 +367,48 @@ fn push_page<T: Text, K: Sink>(
     push_text(alloc, &page, sink)
 }
 
+// Writes the page around lines with those of the source.
+fn push_sourced_page<T: LinedText, K: Sink>(
+    alloc: Global,
+    options: &Options,
+    source: &[u8],
+    lines: &T,
+    sink: &mut K,
+) -> Result<(), Fault>
+    requires below { K.faults sink.old < 2 ^ 32 - 1 }
+    ensures delivers { Delivers (λ out. out
+        ≡ page_of (title_queried options.now) (T.first lines.now ++ source_lines source.now ++ T.others lines.now)) (K.contents sink.old)
+        (K.contents sink.new) result }
+    ensures flushed { OnOk result (K.flushed sink.new ≡ true) }
+    ensures fault { IfErr result (OfProgram (λ _. ⊥) ⊥ ⊥) }
+    ensures faults { K.faults sink.new ≡ K.faults sink.old + write_faults_in result }
+{
+    let text = SourcedText { source, lines };
+    push_page(alloc, options, &text, sink)
+}
+
 // Writes the page around lines of JSON with differences.
 fn push_html<R: Threads + Sync, K: Sink>(
     team: &Team<'_, R, Progress>,
     alloc: Global,
     graph: &Graph<'_>,
-    view: View,
+    shown: Shown<'_>,
     options: &Options,
     sink: &mut K,
 ) -> Result<(), Fault>
     requires threads { IsSync R.row }
     requires below { K.faults sink.old < 2 ^ 32 - 1 }
-    requires there { IfSome view.procedure (λ number. number < length graph.now.procedure_names) }
-    ensures delivers { Delivers (IsPage (title_queried options.now) (IsJsonChanges graph.now view)) (K.contents sink.old) (K.contents sink.new) result }
+    requires there { IfSome shown.view.procedure (λ number. number < length graph.now.procedure_names) }
+    ensures delivers { Delivers (IsPage (title_queried options.now)
+        (IsSourced shown.entry.source.now (named_program_line graph.now) (IsJsonChanges graph.now shown.entry.view)))
+        (K.contents sink.old) (K.contents sink.new) result }
     ensures flushed { OnOk result (K.flushed sink.new ≡ true) }
     ensures fault { IfErr result (OfProgram (λ _. ⊥) ⊥ ⊥) }
     ensures faults { K.faults sink.new ≡ K.faults sink.old + write_faults_in result }
 {
-    let (tables, answers) = tables_and_answers(team, alloc, graph, view)?;
-    let lines = JsonChangesText::of(alloc, graph, &tables, &answers, view)?;
-    push_page(alloc, options, &lines, sink)
+    let (tables, answers) = tables_and_answers(team, alloc, graph, shown.view)?;
+    let lines = JsonChangesText::of(alloc, graph, &tables, &answers, shown.view)?;
+    push_sourced_page(alloc, options, shown.source, &lines, sink)
 }
 
 // Writes the page around lines with paths.
@@ -353,22 +416,23 @@ fn push_html_paths<R: Threads + Sync, K: Sink>(
     team: &Team<'_, R, Progress>,
     alloc: Global,
     graph: &Graph<'_>,
-    view: View,
+    shown: Shown<'_>,
     options: &Options,
     sink: &mut K,
 ) -> Result<(), Fault>
     requires threads { IsSync R.row }
     requires below { K.faults sink.old < 2 ^ 32 - 1 }
-    requires there { IfSome view.procedure (λ number. number < length graph.now.procedure_names) }
-    ensures delivers { Delivers (IsPage (title_queried options.now) (IsJsonWithPaths true graph.now view)) (K.contents sink.old) (K.contents sink.new)
-        result }
+    requires there { IfSome shown.view.procedure (λ number. number < length graph.now.procedure_names) }
+    ensures delivers { Delivers (IsPage (title_queried options.now)
+        (IsSourced shown.entry.source.now (named_program_line graph.now) (IsJsonWithPaths true graph.now shown.entry.view)))
+        (K.contents sink.old) (K.contents sink.new) result }
     ensures flushed { OnOk result (K.flushed sink.new ≡ true) }
     ensures fault { IfErr result (OfProgram (λ _. ⊥) ⊥ ⊥) }
     ensures faults { K.faults sink.new ≡ K.faults sink.old + write_faults_in result }
 {
-    let (tables, answers) = tables_and_answers(team, alloc, graph, view)?;
-    let lines = JsonPathsText::of(alloc, graph, &tables, &answers, view, true)?;
-    push_page(alloc, options, &lines, sink)
+    let (tables, answers) = tables_and_answers(team, alloc, graph, shown.view)?;
+    let lines = JsonPathsText::of(alloc, graph, &tables, &answers, shown.view, true)?;
+    push_sourced_page(alloc, options, shown.source, &lines, sink)
 }
 
 // Writes a part of the report.
@@ -449,23 +513,16 @@ fn push_json_or_part<R: Threads + Sync, K: Sink>(
     requires threads { IsSync R.row }
     requires below { K.faults sink.old < 2 ^ 32 - 1 }
     requires there { IfSome shown.view.procedure (λ number. number < length graph.now.procedure_names) }
-    ensures delivers { Delivers (IsJsonOrPart (share_queried options.now) shown.entry.digest.now graph.now shown.entry.view) (K.contents sink.old)
-        (K.contents sink.new) result }
+    ensures delivers { Delivers (IsJsonOrPart (share_queried options.now) shown.entry.digest.now shown.entry.source.now graph.now shown.entry.view)
+        (K.contents sink.old) (K.contents sink.new) result }
     ensures flushed { OnOk result (K.flushed sink.new ≡ true) }
     ensures fault { IfErr result (OfProgram (λ _. ⊥) ⊥ ⊥) }
     ensures faults { K.faults sink.new ≡ K.faults sink.old + write_faults_in result }
 {
     match options.asked.share {
         Some(share) => push_json_part(team, alloc, graph, shown.digest, share, sink),
-        None => push_json(team, alloc, graph, shown.view, sink),
+        None => push_json(team, alloc, graph, shown, sink),
     }
-}
-
-/// What is shown of a program, and its digest where a part names it.
-#[derive(Clone, Copy)]
-struct Shown<'a> {
-    view: View,
-    digest: &'a [u8],
 }
 
 // Writes what the options ask for of a graph. A report wants no tables.
@@ -480,10 +537,12 @@ fn view_of_graph<R: Threads + Sync, K: Sink>(
     requires threads { IsSync R.row }
     requires below { K.faults sink.old < 2 ^ 32 - 1 }
     requires there { IfSome shown.view.procedure (λ number. number < length graph.now.procedure_names) }
-    ensures delivers { Delivers (IsText options.now.format (request_of options.now) shown.entry.digest.now graph.now shown.entry.view) (K.contents sink.old)
-        (K.contents sink.new) result }
+    requires one { tells_rounds options.now.format ≡ true → IsSome shown.view.procedure }
+    ensures delivers { Delivers (IsText options.now.format (request_of options.now) shown.entry.digest.now shown.entry.source.now graph.now
+        shown.entry.view) (K.contents sink.old) (K.contents sink.new) result }
     ensures flushed { OnOk result (K.flushed sink.new ≡ true) }
-    ensures fault { IfErr result (OfProgram (λ _. ⊥) ⊥ (LacksNamed (because_queried options.now) graph.now shown.entry.view)) }
+    ensures fault { IfErr result (OfProcedure (λ _. ⊥) ⊥ (LacksNamed (because_queried options.now) graph.now shown.entry.view)
+        (IsTooLarge (tells_rounds options.now.format) graph.now shown.entry.view.procedure)) }
     ensures faults { K.faults sink.new ≡ K.faults sink.old + write_faults_in result }
 {
     let view = shown.view;
@@ -492,11 +551,13 @@ fn view_of_graph<R: Threads + Sync, K: Sink>(
         Format::Calls => push_calls(team, alloc, graph, options.asked.look.legend, sink),
         Format::Blocks => push_blocks(team, alloc, graph, view, sink),
         Format::Json => push_json_or_part(team, alloc, graph, shown, options, sink),
-        Format::JsonPaths => push_json_paths(team, alloc, graph, view, sink),
-        Format::JsonChanges => push_json_changes(team, alloc, graph, view, sink),
+        Format::JsonPaths => push_json_paths(team, alloc, graph, shown, sink),
+        Format::JsonChanges => push_json_changes(team, alloc, graph, shown, sink),
+        Format::Steps => push_steps(team, alloc, graph, view, sink),
         Format::Report => push_report_or_part(team, alloc, graph, shown.digest, options, sink),
-        Format::Html => push_html(team, alloc, graph, view, options, sink),
-        Format::HtmlPaths => push_html_paths(team, alloc, graph, view, options, sink),
+        Format::Html => push_html(team, alloc, graph, shown, options, sink),
+        Format::HtmlPaths => push_html_paths(team, alloc, graph, shown, options, sink),
+        Format::HtmlSteps => push_html_steps(team, alloc, graph, view, options, sink),
     }
 }
 
@@ -519,13 +580,15 @@ fn write_view<R: Threads + Sync, K: Sink>(
     requires threads { IsSync R.row }
     requires below { K.faults sink.old < 2 ^ 32 - 1 }
     requires there { IfSome shown.view.procedure (λ number. number < length program.now.procedure_names) }
+    requires one { tells_rounds gated.now.options.now.format ≡ true → IsSome shown.view.procedure }
     ensures delivers { Delivers (λ out. HasFewPoints gated.now.options.now.limits program.now
         × HasFewBits gated.now.options.now.limits program.now
-        × IsText gated.now.options.now.format (request_of gated.now.options.now) shown.entry.digest.now program.now shown.entry.view out)
-        (K.contents sink.old) (K.contents sink.new) result }
+        × IsText gated.now.options.now.format (request_of gated.now.options.now) shown.entry.digest.now shown.entry.source.now program.now
+        shown.entry.view out) (K.contents sink.old) (K.contents sink.new) result }
     ensures flushed { OnOk result (K.flushed sink.new ≡ true) }
-    ensures fault { IfErr result (OfProgram (IsOverLimit gated.now.options.now.limits program.now) ⊥
-        (LacksNamed (because_queried gated.now.options.now) program.now shown.entry.view)) }
+    ensures fault { IfErr result (OfProcedure (IsOverLimit gated.now.options.now.limits program.now) ⊥
+        (LacksNamed (because_queried gated.now.options.now) program.now shown.entry.view)
+        (IsTooLarge (tells_rounds gated.now.options.now.format) program.now shown.entry.view.procedure)) }
     ensures faults { K.faults sink.new ≡ K.faults sink.old + write_faults_in result }
 {
     let options = gated.options;
@@ -539,16 +602,39 @@ fn write_view<R: Threads + Sync, K: Sink>(
     view_of_graph(&team, alloc, &graph, shown, options, sink)
 }
 
+// The text itself, where it is wanted.
+fn text_if(alloc: Global, wanted: bool, text: &[u8]) -> Result<Vec<u8>, OutOfMemory>
+    ensures { IfOk result (λ bytes. bytes.items ≡ kept_for None wanted text.now) }
+{
+    if wanted {
+        text.to_vec(alloc)
+    } else {
+        Ok(Vec::new(alloc))
+    }
+}
+
+// The source whose lines are told, by what was kept of the text.
+fn source_of<'a>(options: &Options, kept: &'a [u8]) -> &'a [u8]
+    ensures { result.now ≡ source_in (share_queried options.now) kept.now }
+{
+    match options.asked.share {
+        Some(_) => b"",
+        None => kept,
+    }
+}
+
 impl Output for GatedOptions<'_> {
     ghost limits = { λ gated. gated.options.now.limits };
 
     ghost needs_graph = { λ _. true };
 
-    ghost kept = { λ gated. digest_for (share_queried gated.options.now) };
+    ghost kept = { λ gated. kept_for (share_queried gated.options.now) (source_queried gated.options.now) };
 
     ghost is_output = { λ gated. IsShownBy (request_of gated.options.now) };
 
-    ghost lacks = { λ gated. LacksProcedure (name_queried gated.options.now) };
+    ghost lacks = { λ gated. LacksProcedure (tells_rounds gated.options.now.format) (name_queried gated.options.now) };
+
+    ghost exceeds = { λ gated. HasLargeProcedure (request_of gated.options.now) };
 
     ghost lacks_remark = { λ gated. LacksRemark (request_of gated.options.now) };
 
@@ -556,11 +642,11 @@ impl Output for GatedOptions<'_> {
         self.options.limits
     }
 
-    // The digest, which parts alone name.
+    // The digest, which parts alone name, or the text, whose lines are told.
     fn keep(&self, alloc: Global, text: &[u8]) -> Result<Vec<u8>, OutOfMemory> {
         match self.options.asked.share {
             Some(_) => digest(alloc, text),
-            None => Ok(Vec::new(alloc)),
+            None => text_if(alloc, self.options.asked.source, text),
         }
     }
 
@@ -573,7 +659,11 @@ impl Output for GatedOptions<'_> {
         sink: &mut K,
     ) -> Result<(), Fault> {
         let view = view_of(program, self.options)?;
-        let shown = Shown { view, digest: mark };
+        let shown = Shown {
+            view,
+            digest: mark,
+            source: source_of(self.options, mark),
+        };
         write_view(rt, alloc, program, shown, self, sink)
     }
 }

@@ -19,6 +19,10 @@ mod progress_tests;
 #[cfg(test)]
 mod refusal_tests;
 #[cfg(test)]
+mod source_tests;
+#[cfg(test)]
+mod step_tests;
+#[cfg(test)]
 mod tacview_tests;
 #[cfg(test)]
 mod word_tests;

@@ -46,6 +46,7 @@ pub(crate) fn options_of(
         because: None,
         share,
         title: None,
+        source: false,
         look: PLAIN,
     };
     Options::new(team.0, team.1, Limits::Standard, format, NONE, asked)
@@ -127,6 +128,7 @@ fn parts_of_json_are_it(rt: HostRuntime) -> Result<(), Fail> {
         because: None,
         share: None,
         title: None,
+        source: false,
         look: PLAIN,
     };
     let whole = Options::new(1, 64, Limits::Standard, Format::Json, NONE, asked).ok_or("options")?;

@@ -1,6 +1,8 @@
 // Runs of `tacview` where memory is refused, as `test_support` has it.
 
+use crate::change_tests::{LINES_OF_ONE, ONE, WHOLE};
 use crate::part_tests::{FOUR_POINTS, JSON_PARTS, PARTS, options_of};
+use crate::step_tests::{LOOP, LOOP_LINES, STEPS_OF_LOOP};
 use crate::tacview_tests::{
     F_GRAPH, GRAPH, GRAPH_OF_F, LINES, Queried, REPORT, SMALL_GRAPH, SMALL_LINES, options,
     run_to_page,
@@ -11,8 +13,11 @@ use std::test::Fail;
 use std::thread::Threads;
 use test_support::all_or_nothing;
 use test_support::failing_streams::blank_page;
-use test_support::worked_programs::{TEAMS, call_between, recursion, remarks, small};
+use test_support::worked_programs::{ALONE, call_between, recursion, remarks, small};
 use view_words::{Format, Options};
+
+// One worker, and three with slices of a bit: each request more is one more run of all these tests.
+const FEW_TEAMS: &[(u32, u32)] = &[ALONE, (3, 1)];
 
 // The answer to a text.
 fn check_view<R: Threads + Sync + Abort + AllocGlobal>(
@@ -37,14 +42,16 @@ fn check_view<R: Threads + Sync + Abort + AllocGlobal>(
 const VIEWS: &[(&str, Queried<'static>, &str)] = &[
     (small::TEXT, GRAPH, SMALL_GRAPH),
     (small::TEXT, LINES, SMALL_LINES),
+    (ONE, WHOLE, LINES_OF_ONE),
     (recursion::TEXT, GRAPH_OF_F, F_GRAPH),
+    (LOOP, STEPS_OF_LOOP, LOOP_LINES),
     (call_between::TEXT, REPORT, call_between::REPORT),
 ];
 
 #[test]
 fn run_is_refused(rt: HostRuntime) -> Result<(), Fail> {
     for (text, queried, answer) in VIEWS {
-        for team in TEAMS {
+        for team in FEW_TEAMS {
             if let Some(options) = options(rt.alloc(), *queried, *team) {
                 check_view(&rt, text, &options, answer)?;
             }
@@ -56,7 +63,7 @@ fn run_is_refused(rt: HostRuntime) -> Result<(), Fail> {
 #[test]
 fn part_is_refused(rt: HostRuntime) -> Result<(), Fail> {
     for (part, count, answer) in PARTS {
-        for team in TEAMS {
+        for team in FEW_TEAMS {
             if let Some(options) = options_of(rt.alloc(), Format::Report, *part, *count, *team) {
                 check_view(&rt, remarks::TEXT, &options, answer)?;
             }
@@ -68,7 +75,7 @@ fn part_is_refused(rt: HostRuntime) -> Result<(), Fail> {
 #[test]
 fn part_of_json_is_refused(rt: HostRuntime) -> Result<(), Fail> {
     for (part, count, answer) in JSON_PARTS {
-        for team in TEAMS {
+        for team in FEW_TEAMS {
             if let Some(options) = options_of(rt.alloc(), Format::Json, *part, *count, *team) {
                 check_view(&rt, FOUR_POINTS, &options, answer)?;
             }

@@ -99,6 +99,7 @@ pub(crate) fn asked(
         because: copied(alloc, because)?,
         share: None,
         title: None,
+        source: false,
         look: PLAIN,
     })
 }
@@ -467,6 +468,18 @@ const FAULTS: &[(Option<&str>, Option<&str>, Fault, &str)] = &[
         Some("3"),
         Fault::NoProcedure,
         "tacview: no such procedure\n",
+    ),
+    (
+        Some("f\n"),
+        None,
+        Fault::LargeProcedure,
+        "tacview: the procedure f\\x0a has more than 200 points: --steps shows at most 200\n",
+    ),
+    (
+        None,
+        None,
+        Fault::LargeProcedure,
+        "tacview: the procedure is too large\n",
     ),
     (
         Some("f"),

@@ -172,6 +172,111 @@ fn calls_that_are_named(rt: HostRuntime) -> Result<(), Fail> {
     Ok(())
 }
 
+// Words for rounds, and which text they name.
+const STEPS: &[(&[&str], Format)] = &[
+    (
+        &["tacview", "--format=json", "--steps", "--procedure=main"],
+        Format::Steps,
+    ),
+    (
+        &[
+            "tacview",
+            "--steps",
+            "--procedure",
+            "f",
+            "--facts=all",
+            "--limits=large",
+            "--format=json",
+        ],
+        Format::Steps,
+    ),
+    (
+        &[
+            "tacview",
+            "--steps",
+            "--procedure=main",
+            "--title=t",
+            "--format=html",
+        ],
+        Format::HtmlSteps,
+    ),
+];
+
+// They are of one procedure, and lines of JSON or a page.
+const NO_STEPS: &[&[&str]] = &[
+    &["tacview", "--steps", "--format=json"],
+    &["tacview", "--steps", "--format=html"],
+    &["tacview", "--steps", "--procedure=main"],
+    &["tacview", "--steps", "--procedure=main", "--format=report"],
+    &["tacview", "--steps", "--procedure=main", "--calls"],
+    &["tacview", "--steps", "--procedure=main", "--blocks"],
+    &[
+        "tacview",
+        "--steps",
+        "--procedure=main",
+        "--format=json",
+        "--paths",
+    ],
+    &[
+        "tacview",
+        "--steps",
+        "--procedure=main",
+        "--format=html",
+        "--paths",
+    ],
+    &[
+        "tacview",
+        "--steps",
+        "--procedure=main",
+        "--format=json",
+        "--changes",
+    ],
+    &[
+        "tacview",
+        "--steps",
+        "--procedure=main",
+        "--format=json",
+        "--because=3",
+    ],
+    &[
+        "tacview",
+        "--steps",
+        "--procedure=main",
+        "--format=json",
+        "--legend",
+    ],
+    &[
+        "tacview",
+        "--steps",
+        "--procedure=main",
+        "--format=json",
+        "--facts=none",
+        "--part=1/2",
+    ],
+    &[
+        "tacview",
+        "--steps",
+        "--procedure=main",
+        "--format=json",
+        "--title=t",
+    ],
+];
+
+#[test]
+fn rounds_that_are_named(rt: HostRuntime) -> Result<(), Fail> {
+    for (words, wanted) in STEPS {
+        let (_, _, format, facts) = named_by(rt.alloc(), words)?;
+        assert!(rt; format == *wanted && facts == ALL);
+    }
+    for words in NO_STEPS {
+        match named_by(rt.alloc(), words) {
+            Ok(_) => assert!(rt; false),
+            Err(kind) => assert!(rt; kind == error::ErrorKind::ArgumentConflict),
+        }
+    }
+    Ok(())
+}
+
 // Looks go with pictures alone, and differences neither with paths nor in reports.
 const NO_LOOKS: &[&[&str]] = &[
     &["tacview", "--format=json", "--hide-entry"],

@@ -12,13 +12,14 @@ use Rattle.clap.specs.declared.error.kind.ErrorKind.TheVariants.{ArgumentConflic
 use Rattle.flow_runs.specs.Words.{AreKindsOf, NamesNumber, flag_rule, has_flag, kind_rule, limits_named, number_rule, sizes, text_rule}
 use Rattle.flow_views.specs.declared.view.Look.{Look}
 use Rattle.part_texts.specs.Shares.{read_share, some_share}
-use Rattle.view_words.specs.Kinds.{facts_queried, facts_named, format_named, formats, with_blocks, with_calls, with_changes, with_part, with_paths, with_picture, with_title}
+use Rattle.view_words.specs.Kinds.{facts_queried, facts_named, format_named, formats, with_blocks, with_calls, with_changes, with_part, with_paths, with_picture, with_source}
+use Rattle.view_words.specs.Kinds.{with_steps, with_title}
 use Rattle.view_words.specs.declared.options.Format.{Format}
 use Rattle.view_words.specs.declared.options.Options.{Options}
 
 -- `tacview [--format KIND] [--facts LIST] [--hide-entry] [--facts-behind] [--facts-on-hover] [--legend] [--calls] [--blocks] [--procedure NAME] [--paths]`,
 -- and behind them
--- `[--changes] [--because PLACE] [--part K/N] [--title TEXT] [--limits SIZE] [--workers N] [--cut N]`
+-- `[--changes] [--steps] [--because PLACE] [--part K/N] [--title TEXT] [--source] [--limits SIZE] [--workers N] [--cut N]`
 abbrev pub form_command : Bor (List PossibleValue) → App
 form_command values =
     with_rule (with_rule (new_app (codes "tacview")) (kind_rule (codes "format") (codes "dot") values)) (text_rule (codes "facts"))
@@ -36,13 +37,19 @@ abbrev pub view_command : Bor (List PossibleValue) → App
 view_command values =
     with_rule (with_rule (with_rule (shape_command values) (text_rule (codes "procedure"))) (flag_rule (codes "paths"))) (flag_rule (codes "changes"))
 
+abbrev pub step_command : Bor (List PossibleValue) → App
+step_command values = with_rule (view_command values) (flag_rule (codes "steps"))
+
 abbrev pub part_command : Bor (List PossibleValue) → App
 part_command values =
-    with_rule (with_rule (with_rule (view_command values) (text_rule (codes "because"))) (text_rule (codes "part"))) (text_rule (codes "title"))
+    with_rule (with_rule (with_rule (step_command values) (text_rule (codes "because"))) (text_rule (codes "part"))) (text_rule (codes "title"))
+
+abbrev pub source_command : Bor (List PossibleValue) → App
+source_command values = with_rule (part_command values) (flag_rule (codes "source"))
 
 abbrev pub tacview_command : Bor (List PossibleValue) → Bor (List PossibleValue) → App
 tacview_command values bounds =
-    with_rule (with_rule (with_rule (part_command values) (kind_rule (codes "limits") (codes "standard") bounds))
+    with_rule (with_rule (with_rule (source_command values) (kind_rule (codes "limits") (codes "standard") bounds))
     (number_rule (codes "workers") (codes "1") 64)) (number_rule (codes "cut") (codes "64") 4096)
 
 -- Whether paths are asked for.
@@ -103,6 +110,14 @@ looks_at_points look = look.behind || look.changes
 abbrev pub fits_blocks : List Row → Bool
 fits_blocks rows = not (looks_at_points (look_queried rows)) && not (is_given (codes "because") rows)
 
+-- Whether rounds are asked for.
+abbrev pub has_steps : List Row → Bool
+has_steps rows = has_flag (codes "steps") rows
+
+-- Whether one procedure is asked for.
+abbrev pub has_procedure : List Row → Bool
+has_procedure rows = is_given (codes "procedure") rows
+
 -- Whether a part is asked for.
 abbrev pub has_part : List Row → Bool
 has_part rows = is_some (first_of (codes "part") rows)
@@ -111,6 +126,10 @@ has_part rows = is_some (first_of (codes "part") rows)
 abbrev pub is_bare : List Row → Bool
 is_bare rows =
     option_map_or (λ list. bytes_eq list (codes "none")) (first_of (codes "facts") rows) false && not (is_some (first_of (codes "procedure") rows))
+
+-- Whether the lines of the source are asked for.
+abbrev pub has_source : List Row → Bool
+has_source rows = has_flag (codes "source") rows
 
 -- Whether a title is asked for.
 abbrev pub has_title : List Row → Bool
@@ -134,13 +153,21 @@ call_format rows = option_and_then (with_calls (has_calls rows) (is_plain rows))
 abbrev pub block_format : List Row → Option Format
 block_format rows = option_and_then (with_blocks (has_blocks rows) (fits_blocks rows)) (call_format rows)
 
+-- The same with rounds or without; None where it has none.
+abbrev pub step_format : List Row → Option Format
+step_format rows = option_and_then (with_steps (has_steps rows) (has_procedure rows)) (block_format rows)
+
 -- The same, whole or a part of it; None where it has none.
 abbrev pub part_format : List Row → Option Format
-part_format rows = option_and_then (with_part (has_part rows) (is_bare rows)) (block_format rows)
+part_format rows = option_and_then (with_part (has_part rows) (is_bare rows)) (step_format rows)
+
+-- The same, with the lines of the source or without; None where it has none.
+abbrev pub source_format : List Row → Option Format
+source_format rows = option_and_then (with_source (has_source rows) (has_part rows)) (part_format rows)
 
 -- The format that is asked for, with a title or without; None where it has none.
 abbrev pub format_queried : List Row → Option Format
-format_queried rows = option_and_then (with_title (has_title rows)) (part_format rows)
+format_queried rows = option_and_then (with_title (has_title rows)) (source_format rows)
 
 -- The name of the procedure that is asked for.
 abbrev pub name_queried : Options → Option (List ℕ)
@@ -153,6 +180,10 @@ because_queried options = option_map string_bytes options.asked.because
 -- The title of the page.
 abbrev pub title_queried : Options → Option (List ℕ)
 title_queried options = option_map string_bytes options.asked.title
+
+-- Whether the lines of the source stand in the text.
+abbrev pub source_queried : Options → Bool
+source_queried options = options.asked.source
 
 -- How its picture looks.
 abbrev pub look_of : Options → Look
@@ -175,6 +206,7 @@ pub record NamesOptions (rows : List Row) (options : Options) : Type 0 where
   pub named_because : because_queried options ≡ first_of (codes "because") rows
   pub named_title : title_queried options ≡ first_of (codes "title") rows
   pub named_share : known_share (first_of (codes "part") rows) ≡ Some (share_queried options)
+  pub named_source : source_queried options ≡ has_source rows
   pub named_look : look_of options ≡ look_queried rows
   pub named_limits : option_and_then limits_named (first_of (codes "limits") rows) ≡ Some options.limits
   pub named_workers : NamesNumber rows (codes "workers") options.workers
@@ -188,8 +220,9 @@ knows_facts rows = option_map_or (λ list. is_some (facts_named list)) (first_of
 abbrev pub knows_share : List Row → Bool
 knows_share rows = is_some (known_share (first_of (codes "part") rows))
 
--- The kinds of errors for options that `clap` takes: paths or differences with a format that has none, or what pictures alone have, or a call graph
--- with what it has not, or a part, or a title, and a list that names no facts, or words that name no part.
+-- The kinds of errors for options that `clap` takes: paths, differences or rounds with a format that has none, or rounds without a procedure, or what
+-- pictures alone have, or a call graph with what it has not, or a part, the lines of the source, or a title, and a list that names no facts, or words
+-- that name no part.
 abbrev pub kinds_of : Bool → Bool → Kinds
 kinds_of false known = ArgumentConflict ∷ []
 kinds_of true false = InvalidValue ∷ []

@@ -71,7 +71,7 @@ pub(crate) fn facts_by(format: Format) -> Chosen
 {
     match format {
         Format::Dot | Format::Calls | Format::Blocks | Format::Report => NONE,
-        Format::Json | Format::JsonPaths | Format::JsonChanges | Format::Html | Format::HtmlPaths =>
-            ALL,
+        Format::Json | Format::JsonPaths | Format::JsonChanges | Format::Steps => ALL,
+        Format::Html | Format::HtmlPaths | Format::HtmlSteps => ALL,
     }
 }

@@ -1,7 +1,7 @@
 // The formats, with what else is asked for.
 
 ghost use Rattle.std.specs.Prelude.{◌≡◌};
-ghost use Rattle.view_words.specs.Kinds.{with_blocks, with_calls, with_changes, with_part, with_paths, with_picture, with_title};
+ghost use Rattle.view_words.specs.Kinds.{with_blocks, with_calls, with_changes, with_part, with_paths, with_picture, with_source, with_steps, with_title};
 
 use crate::options::Format;
 
@@ -19,9 +19,11 @@ pub(crate) fn with_paths(is: bool, format: Format) -> Option<Format>
         Format::Json => Some(Format::JsonPaths),
         Format::JsonPaths => Some(Format::JsonPaths),
         Format::JsonChanges => None,
+        Format::Steps => None,
         Format::Report => None,
         Format::Html => Some(Format::HtmlPaths),
         Format::HtmlPaths => Some(Format::HtmlPaths),
+        Format::HtmlSteps => None,
     }
 }
 
@@ -39,9 +41,11 @@ pub(crate) fn with_changes(is: bool, format: Format) -> Option<Format>
         Format::Json => Some(Format::JsonChanges),
         Format::JsonPaths => None,
         Format::JsonChanges => Some(Format::JsonChanges),
+        Format::Steps => None,
         Format::Report => None,
         Format::Html => None,
         Format::HtmlPaths => None,
+        Format::HtmlSteps => None,
     }
 }
 
@@ -59,9 +63,11 @@ pub(crate) fn with_picture(is: bool, format: Format) -> Option<Format>
         Format::Json => None,
         Format::JsonPaths => None,
         Format::JsonChanges => None,
+        Format::Steps => None,
         Format::Report => None,
         Format::Html => None,
         Format::HtmlPaths => None,
+        Format::HtmlSteps => None,
     }
 }
 
@@ -79,9 +85,11 @@ pub(crate) fn with_calls(is: bool, plain: bool, format: Format) -> Option<Format
         Format::Json => None,
         Format::JsonPaths => None,
         Format::JsonChanges => None,
+        Format::Steps => None,
         Format::Report => None,
         Format::Html => None,
         Format::HtmlPaths => None,
+        Format::HtmlSteps => None,
     }
 }
 
@@ -99,9 +107,33 @@ pub(crate) fn with_blocks(is: bool, fits: bool, format: Format) -> Option<Format
         Format::Json => None,
         Format::JsonPaths => None,
         Format::JsonChanges => None,
+        Format::Steps => None,
         Format::Report => None,
         Format::Html => None,
         Format::HtmlPaths => None,
+        Format::HtmlSteps => None,
+    }
+}
+
+/// The format with rounds, where they are asked for. None where it has none.
+pub(crate) fn with_steps(is: bool, one: bool, format: Format) -> Option<Format>
+    ensures { result ≡ with_steps is one format }
+{
+    if !is {
+        return Some(format);
+    }
+    match format {
+        Format::Dot => None,
+        Format::Calls => None,
+        Format::Blocks => None,
+        Format::Json => { if one { Some(Format::Steps) } else { None } },
+        Format::JsonPaths => None,
+        Format::JsonChanges => None,
+        Format::Steps => { if one { Some(Format::Steps) } else { None } },
+        Format::Report => None,
+        Format::Html => { if one { Some(Format::HtmlSteps) } else { None } },
+        Format::HtmlPaths => None,
+        Format::HtmlSteps => { if one { Some(Format::HtmlSteps) } else { None } },
     }
 }
 
@@ -119,9 +151,33 @@ pub(crate) fn with_part(is: bool, bare: bool, format: Format) -> Option<Format>
         Format::Json => { if bare { Some(Format::Json) } else { None } },
         Format::JsonPaths => None,
         Format::JsonChanges => None,
+        Format::Steps => None,
         Format::Report => Some(Format::Report),
         Format::Html => None,
         Format::HtmlPaths => None,
+        Format::HtmlSteps => None,
+    }
+}
+
+/// The format with the lines of the source, where they are asked for. None where it has none, and for a part of lines of JSON.
+pub(crate) fn with_source(is: bool, part: bool, format: Format) -> Option<Format>
+    ensures { result ≡ with_source is part format }
+{
+    if !is {
+        return Some(format);
+    }
+    match format {
+        Format::Dot => None,
+        Format::Calls => None,
+        Format::Blocks => None,
+        Format::Json => { if part { None } else { Some(Format::Json) } },
+        Format::JsonPaths => Some(Format::JsonPaths),
+        Format::JsonChanges => Some(Format::JsonChanges),
+        Format::Steps => None,
+        Format::Report => None,
+        Format::Html => Some(Format::Html),
+        Format::HtmlPaths => Some(Format::HtmlPaths),
+        Format::HtmlSteps => None,
     }
 }
 
@@ -139,8 +195,10 @@ pub(crate) fn with_title(is: bool, format: Format) -> Option<Format>
         Format::Json => None,
         Format::JsonPaths => None,
         Format::JsonChanges => None,
+        Format::Steps => None,
         Format::Report => None,
         Format::Html => Some(Format::Html),
         Format::HtmlPaths => Some(Format::HtmlPaths),
+        Format::HtmlSteps => Some(Format::HtmlSteps),
     }
 }

@@ -4,6 +4,7 @@
 mod facts;
 mod formats;
 mod options;
+mod steps;
 mod words;
 
 pub use options::{Asked, Format, Options};

@@ -23,12 +23,16 @@ pub enum Format {
     JsonPaths,
     /// Lines of JSON that tell what changes from point to point in place of sets.
     JsonChanges,
+    /// Lines of JSON that tell the rounds of an iteration in one procedure.
+    Steps,
     /// The report on the whole program, or a part of it.
     Report,
     /// A page of HTML around lines of JSON that tell what changes from point to point.
     Html,
     /// The same, with a path for each variable that may be used before it is set.
     HtmlPaths,
+    /// A page of HTML around lines of JSON that tell what changes from point to point in one procedure, and the rounds in it.
+    HtmlSteps,
 }
 
 /// What is asked for by its name or its number, and how a picture looks.
@@ -43,6 +47,8 @@ pub struct Asked {
     pub share: Option<Share>,
     /// The title of a page; without it the page has none. Other texts are the same for all of these.
     pub title: Option<String>,
+    /// Whether the lines of the source stand behind the first line of JSON. Other texts are the same for both.
+    pub source: bool,
     /// How a picture shows facts. Other texts are the same for all of these.
     pub look: Look,
 }

@@ -9,7 +9,7 @@ ghost use Rattle.flow_runs.specs.code.Matches.{HoldsKind};
 ghost use Rattle.part_texts.specs.Shares.{some_share};
 ghost use Rattle.view_words.specs.Commands.{AnswersWords, NamesOptions, format_queried, has_look, has_part, is_bare};
 ghost use Rattle.view_words.specs.Commands.{block_format, call_format, fits_blocks, has_paths, has_picture, has_title, is_given, is_plain, lines_format};
-ghost use Rattle.view_words.specs.Commands.{looks_at_facts, looks_at_points, shape_command, shows_no_facts};
+ghost use Rattle.view_words.specs.Commands.{has_source, looks_at_facts, looks_at_points, shape_command, shows_no_facts, source_command, source_format};
 ghost use Rattle.view_words.specs.Commands.{knows_facts, look_command, look_queried};
 ghost use Rattle.view_words.specs.Commands.{form_command, known_share, knows_share, option_kinds, part_command, picture_command, part_format, shown_format};
 ghost use Rattle.view_words.specs.Commands.{tacview_command, view_command};
@@ -18,9 +18,11 @@ ghost use Rattle.view_words.specs.code.Matches.{HoldsOptions};
 
 use crate::facts::{facts_by, facts_of};
 use crate::formats::{
-    with_blocks, with_calls, with_changes, with_part, with_paths, with_picture, with_title,
+    with_blocks, with_calls, with_changes, with_part, with_paths, with_picture, with_source,
+    with_title,
 };
 use crate::options::{Asked, Format, Options};
+use crate::steps::{step_command, step_format};
 use clap::builder::PossibleValue;
 use clap::error::ErrorKind;
 use clap::{Arg, ArgAction, ArgMatches, Command, Error};
@@ -53,12 +55,14 @@ const AFTER_HELP: &str =
     tacview --format json --facts none --paths < program.tac\n  \
     tacview --facts reach --changes < program.tac | dot -Tsvg > changes.svg\n  \
     tacview --format json --changes < program.tac\n  \
-    tacview --format html --paths --title program.tac < program.tac > program.html\n  \
+    tacview --format json --changes --source < program.tac\n  \
+    tacview --format json --steps --procedure main --facts live < program.tac\n  \
+    tacview --format html --paths --source --title program.tac < program.tac > program.html\n  \
     tacview --format report --limits large < program.tac\n  \
     tacview --format report --part 1/4 < program.tac > part1\n  \
     tacview --merge part1 part2 part3 part4\n\nExit status:\n  \
     0  it was written, or help was asked for\n  \
-    1  the text was refused, the procedure or the remark is not there, or reading, writing or memory failed; standard error has one line on it\n  \
+    1  the text was refused, what is asked for is not there, or too large for --steps, or reading, writing or memory failed; standard error has one line on it\n  \
     2  the words were refused";
 
 const NO_VALUE: &str =
@@ -69,8 +73,10 @@ const NO_FORMAT: &str =
     "'--paths' goes with '--format json' or 'html', '--changes' with '--format dot', or 'json' without '--paths', '--because', '--hide-entry', \
     '--facts-behind', '--facts-on-hover' and '--legend' with '--format dot', '--calls' with '--format dot' and, of all these, '--legend' alone, \
     without '--procedure' and '--facts' other than none, '--blocks' with '--format dot' without '--calls', '--because', '--changes' and \
-    '--facts-behind', '--part' with '--format report', or with '--format json', \
-    '--facts none' and no '--procedure', and '--title' with '--format html'";
+    '--facts-behind', '--steps' with '--procedure' and '--format json' or 'html', without '--paths', '--changes' and '--part', \
+    '--part' with '--format report', or with '--format json', \
+    '--facts none' and no '--procedure', '--source' with '--format json' without '--part', or 'html', without '--steps', and '--title' with \
+    '--format html'";
 
 fn format_of(word: &str) -> Option<Format>
     ensures { result ≡ format_named word.now }
@@ -255,6 +261,16 @@ fn title_option<'a>(alloc: Global) -> Arg<'a>
         .help("With --format html: the title of the page")
 }
 
+fn source_option<'a>(alloc: Global) -> Arg<'a>
+    ensures rule { rule_of result ≡ flag_rule (codes "source") }
+    ensures own { result.global ≡ false }
+{
+    Arg::new(alloc, "source")
+        .long("source")
+        .action(ArgAction::SetTrue)
+        .help("With --format json or html: the lines of the program's text, with comments and all")
+}
+
 // The command with the options that say in which form facts are shown, and which.
 fn form_command<'a>(
     alloc: Global,
@@ -306,7 +322,7 @@ fn shape_command<'a>(
 }
 
 // The command with the options that say what is shown.
-fn view_command<'a>(
+pub(crate) fn view_command<'a>(
     alloc: Global,
     formats: &'a [PossibleValue<'a>],
 ) -> Result<Command<'a>, OutOfMemory>
@@ -325,10 +341,20 @@ fn part_command<'a>(
 ) -> Result<Command<'a>, OutOfMemory>
     ensures { IfOk result (λ c. app_of c ≡ part_command formats.entry) }
 {
-    view_command(alloc, formats)?
+    step_command(alloc, formats)?
         .arg(because_option(alloc))?
         .arg(part_option(alloc))?
         .arg(title_option(alloc))
+}
+
+// The command with the option of the source, too.
+fn source_command<'a>(
+    alloc: Global,
+    formats: &'a [PossibleValue<'a>],
+) -> Result<Command<'a>, OutOfMemory>
+    ensures { IfOk result (λ c. app_of c ≡ source_command formats.entry) }
+{
+    part_command(alloc, formats)?.arg(source_option(alloc))
 }
 
 fn command<'a>(
@@ -338,7 +364,7 @@ fn command<'a>(
 ) -> Result<Command<'a>, OutOfMemory>
     ensures { IfOk result (λ c. app_of c ≡ tacview_command formats.entry sizes.entry) }
 {
-    part_command(alloc, formats)?
+    source_command(alloc, formats)?
         .arg(limits_option(alloc, sizes))?
         .arg(workers_option(alloc))?
         .arg(cut_option(alloc))
@@ -392,7 +418,7 @@ fn format_with_paths(matches: &ArgMatches<'_>) -> Option<Format>
 }
 
 // Whether a word was given for an option.
-fn is_given(matches: &ArgMatches<'_>, name: &str) -> bool
+pub(crate) fn is_given(matches: &ArgMatches<'_>, name: &str) -> bool
     ensures { result ≡ is_given name.now (rows_of (found_of matches.now)) }
 {
     match matches.get_str(name) {
@@ -525,7 +551,7 @@ fn call_format(matches: &ArgMatches<'_>) -> Option<Format>
 }
 
 // The same of points, calls or blocks. None where it has no blocks, and they were asked for.
-fn block_format(matches: &ArgMatches<'_>) -> Option<Format>
+pub(crate) fn block_format(matches: &ArgMatches<'_>) -> Option<Format>
     requires { HoldsKind known_formats (rows_of (found_of matches.now)) (codes "format") }
     ensures { result ≡ block_format (rows_of (found_of matches.now)) }
 {
@@ -540,8 +566,19 @@ fn part_format(matches: &ArgMatches<'_>) -> Option<Format>
     requires { HoldsKind known_formats (rows_of (found_of matches.now)) (codes "format") }
     ensures { result ≡ part_format (rows_of (found_of matches.now)) }
 {
-    match block_format(matches) {
+    match step_format(matches) {
         Some(format) => with_part(has_part(matches), is_bare(matches), format),
+        None => None,
+    }
+}
+
+// The same with the lines of the source or without. None where it has none, and they were asked for.
+fn source_format(matches: &ArgMatches<'_>) -> Option<Format>
+    requires { HoldsKind known_formats (rows_of (found_of matches.now)) (codes "format") }
+    ensures { result ≡ source_format (rows_of (found_of matches.now)) }
+{
+    match part_format(matches) {
+        Some(format) => with_source(has_flag(matches, "source"), has_part(matches), format),
         None => None,
     }
 }
@@ -557,12 +594,12 @@ fn has_title(matches: &ArgMatches<'_>) -> bool
 }
 
 // The format that was asked for. None where it does not have what was asked for: paths, differences, a path that is marked or a look, a
-// part, or a title.
+// part, the lines of the source, or a title.
 fn format_found(matches: &ArgMatches<'_>) -> Option<Format>
     requires { HoldsKind known_formats (rows_of (found_of matches.now)) (codes "format") }
     ensures { result ≡ format_queried (rows_of (found_of matches.now)) }
 {
-    match part_format(matches) {
+    match source_format(matches) {
         Some(format) => with_title(has_title(matches), format),
         None => None,
     }
@@ -602,6 +639,7 @@ fn asked_by(
     ensures because { IfOk result (λ asked. option_map string_bytes asked.because ≡ first_of (codes "because") (rows_of (found_of matches.now))) }
     ensures title { IfOk result (λ asked. option_map string_bytes asked.title ≡ first_of (codes "title") (rows_of (found_of matches.now))) }
     ensures share { IfOk result (λ asked. asked.share ≡ share) }
+    ensures source { IfOk result (λ asked. asked.source ≡ has_source (rows_of (found_of matches.now))) }
     ensures look { IfOk result (λ asked. asked.look ≡ look_queried (rows_of (found_of matches.now))) }
 {
     let procedure = text_found(alloc, matches, "procedure")?;
@@ -612,6 +650,7 @@ fn asked_by(
         because,
         share,
         title,
+        source: has_flag(matches, "source"),
         look: look_found(matches),
     })
 }
@@ -665,16 +704,18 @@ fn named_options(
 impl Options {
     /// The options that the program's words name, of which the first is the program's own name:
     /// `tacview [--format KIND] [--facts LIST] [--hide-entry] [--facts-behind] [--facts-on-hover] [--legend] [--calls] [--blocks]
-    /// [--procedure NAME] [--paths] [--changes] [--because PLACE] [--part K/N] [--title TEXT] [--limits SIZE] [--workers N] [--cut N]`. Without an
-    /// option stands its default: `dot`, no facts for it and all for `json` and `html`, with entries and none behind, points, all procedures, no
-    /// paths, sets and no differences, no path that is marked, the whole report, no title, `standard`, 1 and 64.
+    /// [--procedure NAME] [--paths] [--changes] [--steps] [--because PLACE] [--part K/N] [--title TEXT] [--source] [--limits SIZE]
+    /// [--workers N] [--cut N]`. Without an option stands its default: `dot`, no facts for it and all for `json` and `html`, with entries and
+    /// none behind, points, all procedures, no paths, sets and no differences or rounds, no path that is marked, the whole report, no title, no
+    /// source, `standard`, 1 and 64.
     ///
     /// Refuses words that the command does not take, a number outside its range, a word that is no format or no limits, a list that names
     /// no facts and words that name no part among them, and a call for help; what a format does not have: paths with others than `json` and
     /// `html`, differences with others than `dot` and `json` or with paths, a path that is marked or a look with another than `dot`, the call
-    /// graph with another than `dot`, or with facts, a look of them, one procedure, differences or a path that is marked, a part
-    /// with another than `report`, but for `json` of all procedures with `--facts none`, a title with another than `html`; or memory was
-    /// refused.
+    /// graph with another than `dot`, or with facts, a look of them, one procedure, differences or a path that is marked, rounds with others than
+    /// `json` and `html`, or without one procedure, or with paths or differences, a part
+    /// with another than `report`, but for `json` of all procedures with `--facts none`, the lines of the source with others than
+    /// `json` and `html`, or with a part or rounds, a title with another than `html`; or memory was refused.
     pub fn from_words<'a>(alloc: Global, words: &'a [&'a str]) -> Result<Options, Error>
         ensures { AnswersWords (map (λ w. w.now) words.entry.now) result }
     {

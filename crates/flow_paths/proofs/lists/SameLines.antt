@@ -19,8 +19,10 @@ pub same_lines_with : (changes : Bool) (program : Program) → IsSound program �
     → ((analysis : Analysis) → is_chosen chosen analysis ≡ true → (point : ℕ)
     → (first_shown program procedure ≤ point) × (point < end_shown program procedure)
     → TellSame (known_facts one analysis) (known_facts other analysis) point)
-    → (object : Program → ℕ → Remark → List ℕ)
-    → lines_with changes object program one (record { facts = chosen; procedure = procedure; look = look })
-    ≡ lines_with changes object program other (record { facts = chosen; procedure = procedure; look = look })
-same_lines_with false = same_json_with
-same_lines_with true = same_changes_with
+    → (origins : ℕ → Option ℕ) (object : Program → ℕ → Remark → List ℕ)
+    → lines_with changes origins object program one (record { facts = chosen; procedure = procedure; look = look })
+    ≡ lines_with changes origins object program other (record { facts = chosen; procedure = procedure; look = look })
+same_lines_with false program sound one other agree chosen procedure look there told origins object =
+    same_json_with program sound one other agree chosen procedure look there told object
+same_lines_with true program sound one other agree chosen procedure look there told origins object =
+    same_changes_with program sound one other agree chosen procedure look there told origins object

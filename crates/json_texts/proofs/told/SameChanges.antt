@@ -26,7 +26,7 @@ use Rattle.flow_views.proofs.facts.Behind.{next_shown, same_set_on}
 use Rattle.flow_views.proofs.texts.SameTexts.{same_chosen, same_shown, shown_below}
 use Rattle.json_statements.specs.Parts.{parts_fields}
 use Rattle.json_texts.specs.Changes.{behind_changes, busy_line, change_fields, changed_point_line, changed_remarks, changes_field, changes_with}
-use Rattle.json_texts.specs.Changes.{json_changes, named_program_line, remark_alone, very_busy}
+use Rattle.json_texts.specs.Changes.{json_changes, leads_to_field, named_program_line, remark_alone, very_busy}
 
 module _ (program : Program) (sound : IsSound program) (one other : Knowledge) (agree : Agree program one other) (chosen : Chosen)
     (procedure : Option ℕ) (look : Look) (there : IfSome procedure (λ p. p < length program.procedures))
@@ -75,8 +75,8 @@ module _ (program : Program) (sound : IsSound program) (one other : Knowledge) (
           ++ codes "," ++ change_fields program analysis (ahead i) (same.set i)
           ++ codes ",\"behind\":" ++ behind_same i ++ codes "}"
 
-    same_point : changed_point_line program one chosen point ≡ changed_point_line program other chosen point
-    same_point =
+    same_point : (origins : ℕ → Option ℕ) → changed_point_line origins program one chosen point ≡ changed_point_line origins program other chosen point
+    same_point origins =
         let fields = same_chosen (changes_field program one point) (changes_field program other point) chosen same_field in
         let doubtful = agree.doubtful point below in
         λ i. codes "{\"type\":\"point\",\"point\":" ++ decimal point
@@ -85,7 +85,7 @@ module _ (program : Program) (sound : IsSound program) (one other : Knowledge) (
         ++ span_fields program point
         ++ (codes ",\"labels\":" ++ array (map (λ label. quoted (label_name program point label)) (labels_at program point))
         ++ codes ",\"statement\":" ++ statement_field program point
-        ++ codes ",\"doubtful\":" ++ boolean (doubtful i)
+        ++ codes ",\"doubtful\":" ++ boolean (doubtful i) ++ leads_to_field (origins point)
         ++ codes ",\"edges\":" ++ array (map (point_edge program) (edges_from program point)))
         ++ parts_fields program point
         ++ fields i ++ codes "}\n"
@@ -97,20 +97,21 @@ module _ (program : Program) (sound : IsSound program) (one other : Knowledge) (
         (same_remarks program sound one other agree point below)
 
   -- the lines with the remarks in any form
-  pub same_changes_with : (object : Program → ℕ → Remark → List ℕ) → changes_with object program one view ≡ changes_with object program other view
-  same_changes_with object =
-      let points = same_shown program procedure there (changed_point_line program one chosen) (changed_point_line program other chosen)
-      same_point chosen look in
+  pub same_changes_with : (origins : ℕ → Option ℕ) (object : Program → ℕ → Remark → List ℕ)
+      → changes_with origins object program one view ≡ changes_with origins object program other view
+  same_changes_with origins object =
+      let points = same_shown program procedure there (changed_point_line origins program one chosen)
+      (changed_point_line origins program other chosen) (λ point at. same_point point at origins) chosen look in
       let remarks = same_shown program procedure there (λ point. flat_map (object program point) (remarks_at program one point))
       (λ point. flat_map (object program point) (remarks_at program other point))
       (λ point at. ap (flat_map (object program point))
       (same_remarks program sound one other agree point (shown_below program procedure there point at))) chosen look in
       λ i. named_program_line program ++ points i ++ remarks i
 
-  pub same_changes : json_changes program one view ≡ json_changes program other view
-  same_changes =
-      let points = same_shown program procedure there (changed_point_line program one chosen) (changed_point_line program other chosen)
-      same_point chosen look in
+  pub same_changes : (origins : ℕ → Option ℕ) → json_changes origins program one view ≡ json_changes origins program other view
+  same_changes origins =
+      let points = same_shown program procedure there (changed_point_line origins program one chosen)
+      (changed_point_line origins program other chosen) (λ point at. same_point point at origins) chosen look in
       let remarks = same_shown program procedure there (changed_remarks program one chosen) (changed_remarks program other chosen)
       same_remarks_told chosen look in
       λ i. named_program_line program ++ points i ++ remarks i ++ end_line program view

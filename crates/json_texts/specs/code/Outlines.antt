@@ -13,13 +13,17 @@ pub record IsOutline (outline : PointOutline) : Type 0 where
   pub point : outline.point < point_count outline.graph.now
   pub edges : outline.edges.now ≡ edges_from outline.graph.now outline.point
 
--- the labels of a point, its statement, whether it is doubtful, and its edges
-abbrev pub point_fields : Program → (doubtful : Bool) → ℕ → List ℕ
-point_fields program doubtful point =
+-- the labels of a point, its statement, and whether it is doubtful
+abbrev pub point_front : Program → (doubtful : Bool) → ℕ → List ℕ
+point_front program doubtful point =
     codes ",\"labels\":" ++ array (map (λ label. quoted (label_name program point label)) (labels_at program point))
     ++ codes ",\"statement\":" ++ statement_field program point
     ++ codes ",\"doubtful\":" ++ boolean doubtful
-    ++ codes ",\"edges\":" ++ array (map (point_edge program) (edges_from program point))
+
+-- these and its edges
+abbrev pub point_fields : Program → (doubtful : Bool) → ℕ → List ℕ
+point_fields program doubtful point =
+    point_front program doubtful point ++ codes ",\"edges\":" ++ array (map (point_edge program) (edges_from program point))
 
 -- the line of a point without facts
 abbrev pub bare_point_line : Program → (doubtful : Bool) → ℕ → List ℕ

@@ -23,17 +23,17 @@ as_made : (values bounds : Bor (List PossibleValue)) → HasOptions (tacview_com
 as_made values bounds = record {
   options = record {
     plain = refl;
-    workers = (other, (other, (other, (other, (other, (other, (other, (other, (other, (other, (other, (other, (other, (other, (other, (λ _. record { parser = refl; any_case = refl; least = refl; action = refl; simple = refl }, (other, tt)))))))))))))))));
-    cut = (other, (other, (other, (other, (other, (other, (other, (other, (other, (other, (other, (other, (other, (other, (other, (other, (λ _. record { parser = refl; any_case = refl; least = refl; action = refl; simple = refl }, tt)))))))))))))))));
+    workers = (other, (other, (other, (other, (other, (other, (other, (other, (other, (other, (other, (other, (other, (other, (other, (other, (other, (λ _. record { parser = refl; any_case = refl; least = refl; action = refl; simple = refl }, (other, tt)))))))))))))))))));
+    cut = (other, (other, (other, (other, (other, (other, (other, (other, (other, (other, (other, (other, (other, (other, (other, (other, (other, (other, (λ _. record { parser = refl; any_case = refl; least = refl; action = refl; simple = refl }, tt)))))))))))))))))));
     workers_default = refl;
     cut_default = refl;
     one_kind = record {
-      of_kind = (λ _. record { parser = refl; any_case = refl; least = refl; action = refl; simple = refl }, (other, (other, (other, (other, (other, (other, (other, (other, (other, (other, (other, (other, (other, (other, (other, (other, tt)))))))))))))))));
+      of_kind = (λ _. record { parser = refl; any_case = refl; least = refl; action = refl; simple = refl }, (other, (other, (other, (other, (other, (other, (other, (other, (other, (other, (other, (other, (other, (other, (other, (other, (other, (other, tt)))))))))))))))))));
       kind_default = refl;
     };
   };
   limits = record {
-    of_kind = (other, (other, (other, (other, (other, (other, (other, (other, (other, (other, (other, (other, (other, (other, (λ _. record { parser = refl; any_case = refl; least = refl; action = refl; simple = refl }, (other, (other, tt)))))))))))))))));
+    of_kind = (other, (other, (other, (other, (other, (other, (other, (other, (other, (other, (other, (other, (other, (other, (other, (other, (λ _. record { parser = refl; any_case = refl; least = refl; action = refl; simple = refl }, (other, (other, tt)))))))))))))))))));
     kind_default = refl;
   };
 }
@@ -42,17 +42,17 @@ as_built : (values bounds : Bor (List PossibleValue)) → HasOptions (built (tac
 as_built values bounds = record {
   options = record {
     plain = refl;
-    workers = (other, (other, (other, (other, (other, (other, (other, (other, (other, (other, (other, (other, (other, (other, (other, (λ _. record { parser = refl; any_case = refl; least = refl; action = refl; simple = refl }, (other, (other, tt))))))))))))))))));
-    cut = (other, (other, (other, (other, (other, (other, (other, (other, (other, (other, (other, (other, (other, (other, (other, (other, (λ _. record { parser = refl; any_case = refl; least = refl; action = refl; simple = refl }, (other, tt))))))))))))))))));
+    workers = (other, (other, (other, (other, (other, (other, (other, (other, (other, (other, (other, (other, (other, (other, (other, (other, (other, (λ _. record { parser = refl; any_case = refl; least = refl; action = refl; simple = refl }, (other, (other, tt))))))))))))))))))));
+    cut = (other, (other, (other, (other, (other, (other, (other, (other, (other, (other, (other, (other, (other, (other, (other, (other, (other, (other, (λ _. record { parser = refl; any_case = refl; least = refl; action = refl; simple = refl }, (other, tt))))))))))))))))))));
     workers_default = refl;
     cut_default = refl;
     one_kind = record {
-      of_kind = (λ _. record { parser = refl; any_case = refl; least = refl; action = refl; simple = refl }, (other, (other, (other, (other, (other, (other, (other, (other, (other, (other, (other, (other, (other, (other, (other, (other, (other, tt))))))))))))))))));
+      of_kind = (λ _. record { parser = refl; any_case = refl; least = refl; action = refl; simple = refl }, (other, (other, (other, (other, (other, (other, (other, (other, (other, (other, (other, (other, (other, (other, (other, (other, (other, (other, (other, tt))))))))))))))))))));
       kind_default = refl;
     };
   };
   limits = record {
-    of_kind = (other, (other, (other, (other, (other, (other, (other, (other, (other, (other, (other, (other, (other, (other, (λ _. record { parser = refl; any_case = refl; least = refl; action = refl; simple = refl }, (other, (other, (other, tt))))))))))))))))));
+    of_kind = (other, (other, (other, (other, (other, (other, (other, (other, (other, (other, (other, (other, (other, (other, (other, (other, (λ _. record { parser = refl; any_case = refl; least = refl; action = refl; simple = refl }, (other, (other, (other, tt))))))))))))))))))));
     kind_default = refl;
   };
 }

@@ -10,9 +10,9 @@ returns-in-Some c =
     let rows = rows_of (found_of c.args.matches.now) in
     c.with_title.ensures
     ∙ ap (λ is. with_title is c.in-Some.format) c.has_title.ensures
-    ∙ ap (option_and_then (with_title (has_title rows))) (sym (sym c.part_format.ensures ∙ c.in-Some.is))
+    ∙ ap (option_and_then (with_title (has_title rows))) (sym (sym c.source_format.ensures ∙ c.in-Some.is))
 
 pub returns-in-None : goal.returns-in-None
 returns-in-None c =
     let rows = rows_of (found_of c.args.matches.now) in
-    ap (option_and_then (with_title (has_title rows))) (sym (sym c.part_format.ensures ∙ c.in-None.is))
+    ap (option_and_then (with_title (has_title rows))) (sym (sym c.source_format.ensures ∙ c.in-None.is))

@@ -11,9 +11,9 @@ returns-in-Some c =
     c.with_part.ensures
     ∙ ap (λ is. with_part is c.is_bare.result c.in-Some.format) c.has_part.ensures
     ∙ ap (λ bare. with_part (has_part rows) bare c.in-Some.format) c.is_bare.ensures
-    ∙ ap (option_and_then (with_part (has_part rows) (is_bare rows))) (sym (sym c.block_format.ensures ∙ c.in-Some.is))
+    ∙ ap (option_and_then (with_part (has_part rows) (is_bare rows))) (sym (sym c.step_format.ensures ∙ c.in-Some.is))
 
 pub returns-in-None : goal.returns-in-None
 returns-in-None c =
     let rows = rows_of (found_of c.args.matches.now) in
-    ap (option_and_then (with_part (has_part rows) (is_bare rows))) (sym (sym c.block_format.ensures ∙ c.in-None.is))
+    ap (option_and_then (with_part (has_part rows) (is_bare rows))) (sym (sym c.step_format.ensures ∙ c.in-None.is))

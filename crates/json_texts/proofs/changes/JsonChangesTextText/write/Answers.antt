@@ -1,8 +1,0 @@
-use Rattle.text_pieces.proofs.sinks.Taking.{takes_as, takes_then}
-use Rattle.json_texts.proofs.changes.JsonChangesTextText.write.Goals as goal
-
-pub returns : goal.returns
-returns g c =
-    takes_as _ _ _ _
-    (takes_then _ _ _ _ _ (takes_then _ _ _ _ _ (takes_then _ _ _ _ _ c.write_named_program.ensures c.write_all_points.ensures)
-    c.write_all_points-2.ensures) c.write_end.ensures) c.self.view_is

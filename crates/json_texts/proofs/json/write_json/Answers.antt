@@ -1,6 +1,0 @@
-use Rattle.text_pieces.proofs.sinks.Taking.{takes_then}
-use Rattle.json_texts.proofs.json.write_json.Goals as goal
-
-pub returns : goal.returns
-returns g c =
-    takes_then _ _ _ _ _ (takes_then _ _ _ _ _ c.write_program.ensures c.write_all_points.ensures) c.write_all_points-2.ensures

@@ -1,0 +1,5 @@
+use Rattle.text_pieces.proofs.sinks.Taking.{takes_then}
+use Rattle.json_texts.proofs.json.write_sets.Goals as goal
+
+pub returns : goal.returns
+returns g c = takes_then _ _ _ _ _ c.write_all_points.ensures c.write_all_points-2.ensures

@@ -1,0 +1,2 @@
+pub mod SourceLaws
+pub mod SourceLines
