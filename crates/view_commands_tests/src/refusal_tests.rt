@@ -2,6 +2,7 @@
 
 use crate::change_tests::{LINES_OF_ONE, ONE, WHOLE};
 use crate::part_tests::{FOUR_POINTS, JSON_PARTS, PARTS, options_of};
+use crate::source_tests::{SETS, SOURCE, joined, sourced};
 use crate::step_tests::{LOOP, LOOP_LINES, STEPS_OF_LOOP};
 use crate::tacview_tests::{
     F_GRAPH, GRAPH, GRAPH_OF_F, LINES, Queried, REPORT, SMALL_GRAPH, SMALL_LINES, options,
@@ -22,20 +23,20 @@ const FEW_TEAMS: &[(u32, u32)] = &[ALONE, (3, 1)];
 // The answer to a text.
 fn check_view<R: Threads + Sync + Abort + AllocGlobal>(
     rt: &R,
-    text: &str,
+    text: &[u8],
     options: &Options,
-    answer: &str,
+    answer: &[u8],
 ) -> Result<(), Fail> {
     let mut page = blank_page(rt.alloc());
     page.taken = Vec::with_capacity(rt.alloc(), 2048)?;
-    let outcome = run_to_page(rt, text.as_bytes(), &mut page, options);
+    let outcome = run_to_page(rt, text, &mut page, options);
     all_or_nothing!(
         rt,
         "run of tacview",
         outcome,
         Fault::OutOfMemory,
         page.taken.as_slice(),
-        answer.as_bytes()
+        answer
     )
 }
 
@@ -53,7 +54,7 @@ fn run_is_refused(rt: HostRuntime) -> Result<(), Fail> {
     for (text, queried, answer) in VIEWS {
         for team in FEW_TEAMS {
             if let Some(options) = options(rt.alloc(), *queried, *team) {
-                check_view(&rt, text, &options, answer)?;
+                check_view(&rt, text.as_bytes(), &options, answer.as_bytes())?;
             }
         }
     }
@@ -65,7 +66,7 @@ fn part_is_refused(rt: HostRuntime) -> Result<(), Fail> {
     for (part, count, answer) in PARTS {
         for team in FEW_TEAMS {
             if let Some(options) = options_of(rt.alloc(), Format::Report, *part, *count, *team) {
-                check_view(&rt, remarks::TEXT, &options, answer)?;
+                check_view(&rt, remarks::TEXT.as_bytes(), &options, answer.as_bytes())?;
             }
         }
     }
@@ -77,9 +78,20 @@ fn part_of_json_is_refused(rt: HostRuntime) -> Result<(), Fail> {
     for (part, count, answer) in JSON_PARTS {
         for team in FEW_TEAMS {
             if let Some(options) = options_of(rt.alloc(), Format::Json, *part, *count, *team) {
-                check_view(&rt, FOUR_POINTS, &options, answer)?;
+                check_view(&rt, FOUR_POINTS.as_bytes(), &options, answer.as_bytes())?;
             }
         }
+    }
+    Ok(())
+}
+
+#[test]
+fn source_is_refused(rt: HostRuntime) -> Result<(), Fail> {
+    let Some(wanted) = joined(rt.alloc(), SETS) else {
+        return Ok(());
+    };
+    if let Some(options) = sourced(Format::Json, true, ALONE) {
+        check_view(&rt, SOURCE, &options, wanted.as_slice())?;
     }
     Ok(())
 }

@@ -1,20 +1,18 @@
 // The lines of a program's text behind the first line of JSON, by hand.
 
 use crate::tacview_tests::{NONE, PLAIN, run_to_page};
-use flow_runs::Fault;
 use std::alloc::Global;
 use std::process::Abort;
 use std::test::Fail;
 use std::thread::Threads;
 use tac_program::Limits;
-use test_support::all_or_nothing;
 use test_support::failing_streams::blank_page;
 use test_support::worked_programs::{ALONE, TEAMS};
 use view_words::{Asked, Format, Options};
 
-// A comment with quotes and a backslash, lines that end with a carriage return and a line feed, a blank one, a tab, bytes that are no signs of
-// ASCII, and no line feed at the end.
-const SOURCE: &[u8] = b"# \"a\\b\"\r\nproc main\n\n\tx = 1 # \xc3\xa4\x01<\r\nend";
+/// A comment with quotes and a backslash, lines that end with a carriage return and a line feed, a blank one, a tab, bytes that are no signs of
+/// ASCII, and no line feed at the end.
+pub(crate) const SOURCE: &[u8] = b"# \"a\\b\"\r\nproc main\n\n\tx = 1 # \xc3\xa4\x01<\r\nend";
 
 const LINES: &str = "{\"type\":\"source\",\"line\":1,\"start\":0,\"text\":\"# \\\"a\\\\b\\\"\"}\n\
     {\"type\":\"source\",\"line\":2,\"start\":9,\"text\":\"proc main\"}\n\
@@ -41,8 +39,8 @@ const NAMES: &str =
     ",\"definition_names\":[\"x@entry\",\"x@4\"],\"expression_names\":[],\"definition_parts\":[{\"variable\":0,\"point\":null},\
     {\"variable\":0,\"point\":0}],\"expression_parts\":[]";
 
-// The options for lines of this format, without facts, and those of the source. None where memory is refused.
-fn sourced(format: Format, source: bool, team: (u32, u32)) -> Option<Options> {
+/// The options for lines of this format, without facts, and those of the source. None where memory is refused.
+pub(crate) fn sourced(format: Format, source: bool, team: (u32, u32)) -> Option<Options> {
     let asked = Asked {
         procedure: None,
         because: None,
@@ -54,8 +52,8 @@ fn sourced(format: Format, source: bool, team: (u32, u32)) -> Option<Options> {
     Options::new(team.0, team.1, Limits::Standard, format, NONE, asked)
 }
 
-// Texts one behind the other. None where memory is refused.
-fn joined(alloc: Global, texts: &[&str]) -> Option<Vec<u8>> {
+/// Texts one behind the other. None where memory is refused.
+pub(crate) fn joined(alloc: Global, texts: &[&str]) -> Option<Vec<u8>> {
     let mut whole = Vec::new(alloc);
     for text in texts {
         whole.extend_from_slice(text.as_bytes()).ok()?;
@@ -77,18 +75,20 @@ fn check_lines<R: Threads + Sync + Abort + AllocGlobal>(
     Ok(())
 }
 
+/// Lines with sets, piece by piece.
+pub(crate) const SETS: &[&str] = &[
+    HEAD,
+    "}\n",
+    LINES,
+    POINTS,
+    DEAD,
+    "}\n",
+    "{\"type\":\"end\",\"points\":2}\n",
+];
+
 #[test]
 fn sources_with_sets(rt: HostRuntime) -> Result<(), Fail> {
-    let texts = &[
-        HEAD,
-        "}\n",
-        LINES,
-        POINTS,
-        DEAD,
-        "}\n",
-        "{\"type\":\"end\",\"points\":2}\n",
-    ];
-    let wanted = joined(rt.alloc(), texts.as_slice()).ok_or("texts")?;
+    let wanted = joined(rt.alloc(), SETS).ok_or("texts")?;
     for team in TEAMS {
         check_lines(&rt, Format::Json, *team, wanted.as_slice())?;
     }
@@ -150,36 +150,6 @@ fn no_source_where_none_is_asked_for(rt: HostRuntime) -> Result<(), Fail> {
     let answered = run_to_page(&rt, SOURCE, &mut page, &options);
     assert!(rt; answered.is_ok() && page.taken.as_slice() == wanted.as_slice());
     Ok(())
-}
-
-#[test]
-fn source_is_refused(rt: HostRuntime) -> Result<(), Fail> {
-    let texts = &[
-        HEAD,
-        "}\n",
-        LINES,
-        POINTS,
-        DEAD,
-        "}\n",
-        "{\"type\":\"end\",\"points\":2}\n",
-    ];
-    let Some(wanted) = joined(rt.alloc(), texts.as_slice()) else {
-        return Ok(());
-    };
-    let Some(options) = sourced(Format::Json, true, ALONE) else {
-        return Ok(());
-    };
-    let mut page = blank_page(rt.alloc());
-    page.taken = Vec::with_capacity(rt.alloc(), 2048)?;
-    let outcome = run_to_page(&rt, SOURCE, &mut page, &options);
-    all_or_nothing!(
-        &rt,
-        "run of tacview",
-        outcome,
-        Fault::OutOfMemory,
-        page.taken.as_slice(),
-        wanted.as_slice()
-    )
 }
 
 // Whether the words name options, and the lines of the source with them.
